@@ -1,0 +1,141 @@
+-- The token at the head of a source's rest. Document 01, "Tokens".
+use mathlib.Core.Bool.{Bool, true, false, not, _&&_, _||_}
+use mathlib.Core.List.{List, [], _∷_}
+use Prim.Native.Nat.{ℕ, zero, suc, pred, _+_, _*_, _-_}
+use Prim.Native.Char.{Char, code}
+use lib.Dec.{eqb, leb, ltb}
+use lib.IntN.{ℤ, pos}
+use lib.ListN.{length, take, drop, getD}
+use Rattle.lexer.specs.Text.{if_then_else_, is, within, anyOf, isBlank, isDigit, isHexDigit, isLetter, isWordPart, run, all, last, digit, valueFrom, openText}
+use Rattle.lexer.specs.declared.LiteralKind.the-variants.{Number, Text}
+use Rattle.lexer.specs.declared.PunctuationKind.{PunctuationKind}
+use Rattle.lexer.specs.declared.PunctuationKind.the-variants.{CloseBracket, CloseParenthesis, Colon, Comma, Dollar, Dot, ForwardSlash, Minus, OpenBracket, OpenParenthesis, Plus, Star}
+use Rattle.lexer.specs.declared.Token.{Token}
+use Rattle.lexer.specs.declared.Token.the-variants.{Whitespace, Identifier, Literal, Punctuation, Comment, NewLine, EndOfFile, Invalid}
+use Rattle.lexer.specs.declared.Fault.{Fault}
+use Rattle.lexer.specs.declared.Fault.the-variants.{LargerDigit, TooLarge}
+use Rattle.lexer.specs.declared.TokenRead.{TokenRead}
+use Rattle.lexer.specs.declared.TokenRead.the-variants.{Read, Refused}
+
+unfoldable pub largest : ℕ
+largest = 2147483647
+
+-- a literal of n bytes that is the number v
+unfoldable pub numeral : ℕ → ℕ → TokenRead
+numeral n v = Read (Literal n (Number (pos v)))
+
+-- A byte that no rule takes is a token of its own.
+unfoldable pub stray : ℕ → TokenRead
+stray c = Read (Invalid 1 c)
+
+-- `0b`, `0o`, `0d`, `0x` followed by at least one digit of that base take all such digits; with none, the token is the single `0`.
+-- s is what stands behind the prefix. 31 where the number is above the largest.
+unfoldable pub prefixed : ℕ → (ℕ → Bool) → List ℕ → TokenRead
+prefixed base isDigitOf s =
+    let n : ℕ = run isDigitOf s in
+    let v : ℕ = valueFrom 0 base (take n s) in
+    if eqb n 0 then numeral 1 0
+    else if leb v largest then numeral (2 + n) v else Refused (2 + n) TooLarge
+
+-- Digits ds in a base, as a literal of n bytes. If they don't fit the base or exceed the largest, the token is Invalid of length 1:
+-- the byte c with which it begins.
+unfoldable pub digits : ℕ → ℕ → List ℕ → ℕ → TokenRead
+digits c base ds n =
+    let v : ℕ = valueFrom 0 base ds in
+    if all (λ d. ltb (digit d) base) ds && leb v largest then numeral n v else stray c
+
+-- A run ds of n hexadecimal digits that begins with c; `cut` is the run without its last character, `after` the character behind it.
+-- A last b, B, d or D is the suffix and leaves the run; else a following o, O, h or H is the suffix; else the base is 10.
+-- Binary with a character above `1` is 30.
+unfoldable pub inBase : ℕ → ℕ → List ℕ → List ℕ → ℕ → TokenRead
+inBase c n ds cut after =
+    if anyOf "bB" (last ds) then (if all (λ d. leb d (code "1")) cut then digits c 2 cut n else Refused n LargerDigit)
+    else if anyOf "dD" (last ds) then digits c 10 cut n
+    else if anyOf "oO" after then digits c 8 ds (suc n)
+    else if anyOf "hH" after then digits c 16 ds (suc n)
+    else digits c 10 ds n
+
+unfoldable pub suffixed : ℕ → List ℕ → TokenRead
+suffixed c cs =
+    let n : ℕ = run isHexDigit (c ∷ cs) in
+    inBase c n (take n (c ∷ cs)) (take (pred n) (c ∷ cs)) (getD (c ∷ cs) n 0)
+
+-- the number whose first digit is c, which cs follow
+unfoldable pub numberAt : ℕ → List ℕ → TokenRead
+numberAt c [] = suffixed c []
+numberAt c (d ∷ ds) =
+    if not (is "0" c) then suffixed c (d ∷ ds)
+    else if is "b" d then prefixed 2 (within "0" "1") ds
+    else if is "o" d then prefixed 8 (within "0" "7") ds
+    else if is "d" d then prefixed 10 isDigit ds
+    else if is "x" d then prefixed 16 isHexDigit ds
+    else suffixed c (d ∷ ds)
+
+-- A quoted string ends at the next `'` (closed) or before the line feed or end (unclosed). The opening quote has been passed.
+unfoldable pub inQuotes : ℕ → Bool
+inQuotes c = not (is "'" c || is "\n" c)
+
+unfoldable pub stringAfter : List ℕ → TokenRead
+stringAfter cs =
+    let n : ℕ = run inQuotes cs in
+    if is "'" (getD cs n 0) then Read (Literal (n + 2) (Text true)) else Read (Literal (n + 1) (Text false))
+
+-- A comment runs from `;` to before the line feed.
+unfoldable pub inComment : ℕ → Bool
+inComment c = not (is "\n" c)
+
+unfoldable pub mark : PunctuationKind → TokenRead
+mark k = Read (Punctuation 1 k)
+
+-- a token of one byte that is no other kind's
+unfoldable pub markAt : ℕ → TokenRead
+markAt c =
+    if is ":" c then mark Colon
+    else if is "," c then mark Comma
+    else if is "$" c then mark Dollar
+    else if is "." c then mark Dot
+    else if is "[" c then mark OpenBracket
+    else if is "]" c then mark CloseBracket
+    else if is "(" c then mark OpenParenthesis
+    else if is ")" c then mark CloseParenthesis
+    else if is "+" c then mark Plus
+    else if is "-" c then mark Minus
+    else if is "*" c then mark Star
+    else if is "/" c then mark ForwardSlash
+    else stray c
+
+unfoldable pub tokenAt : List ℕ → TokenRead
+tokenAt [] = Read (EndOfFile 0)
+tokenAt (c ∷ cs) =
+    let s : List ℕ = c ∷ cs in
+    if is ";" c then Read (Comment (suc (run inComment cs)))
+    else if isBlank c then Read (Whitespace (suc (run isBlank cs)))
+    else if isDigit c then numberAt c cs
+    else if isLetter c then Read (Identifier (suc (run isWordPart cs)))
+    else if is "'" c then stringAfter cs
+    else if is "\n" c then Read (NewLine 1)
+    else markAt c
+
+-- A token's length, and that of what is refused.
+abbrev pub lengthOf : Token → ℕ
+lengthOf (Whitespace n) = n
+lengthOf (Identifier n) = n
+lengthOf (Literal n k) = n
+lengthOf (Punctuation n k) = n
+lengthOf (Comment n) = n
+lengthOf (NewLine n) = n
+lengthOf (EndOfFile n) = n
+lengthOf (Invalid n c) = n
+
+abbrev pub sizeOf : TokenRead → ℕ
+sizeOf (Read t) = lengthOf t
+sizeOf (Refused n f) = n
+
+-- the numbers of the refusals
+abbrev pub faultNumber : Fault → ℕ
+faultNumber LargerDigit = 30
+faultNumber TooLarge = 31
+
+unfoldable pub openTokens : Unit {0}
+unfolding openText largest numeral stray prefixed digits inBase suffixed numberAt inQuotes stringAfter inComment mark markAt tokenAt
+openTokens = tt

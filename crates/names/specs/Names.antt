@@ -1,0 +1,45 @@
+-- What a word names: a register, a segment, a size word, a directive, an operation. Case is ignored. Documents 003 and 004.
+use mathlib.Core.Bool.{Bool, true, false, not}
+use mathlib.Core.List.{List, [], _∷_, map}
+use mathlib.Core.Option.{Option, none, some}
+use Prim.Native.Nat.{ℕ, zero, suc}
+use Prim.Native.String.{String}
+use lib.Dec.{eqb}
+use lib.ListN.{take, drop, getD}
+use Rattle.lexer.specs.Text.{if_then_else_, maybe, bytes, lower, same, run}
+use Rattle.names.specs.Table.{operations}
+
+-- A name's number is its place in its list. Registers by encoding: byte 0 to 7, word 8 to 15.
+unfoldable pub registers : List String
+registers = "al" ∷ "cl" ∷ "dl" ∷ "bl" ∷ "ah" ∷ "ch" ∷ "dh" ∷ "bh" ∷ "ax" ∷ "cx" ∷ "dx" ∷ "bx" ∷ "sp" ∷ "bp" ∷ "si" ∷ "di" ∷ []
+
+unfoldable pub segments : List String
+segments = "es" ∷ "cs" ∷ "ss" ∷ "ds" ∷ []
+
+unfoldable pub sizes : List String
+sizes = "byte" ∷ "word" ∷ []
+
+unfoldable pub directives : List String
+directives = "equ" ∷ "db" ∷ "dw" ∷ "times" ∷ []
+
+-- the place of a word among names, of which the first has the number n
+unfoldable pub placeFrom : ℕ → List ℕ → List String → Option ℕ
+placeFrom n w [] = none
+placeFrom n w (name ∷ names) = let r : Option ℕ = placeFrom (suc n) w names in if same w (bytes name) then some n else r
+
+unfoldable pub named : List String → List ℕ → Option ℕ
+named names w = placeFrom 0 (map lower w) names
+
+-- The rows of a table of eight bytes a row: up to seven letters, filled up with zeros, and the operation's number.
+unfoldable pub spelling : List ℕ → List ℕ
+spelling row = take (run (λ c. not (eqb c 0)) (take 7 row)) row
+
+unfoldable pub operationFrom : ℕ → List ℕ → List ℕ → Option ℕ
+operationFrom zero w table = none
+operationFrom (suc n) w table =
+    let r : Option ℕ = operationFrom n w (drop 8 table) in
+    if same w (spelling table) then some (getD table 7 0) else r
+
+-- the operation that a word names by a table of 117 rows: that of the first row which spells it
+unfoldable pub operationNamed : List ℕ → List ℕ → Option ℕ
+operationNamed table w = operationFrom 117 (map lower w) table

@@ -1,0 +1,1 @@
+// Names: registers, segments, size words, directives and operations.
