@@ -1,0 +1,3 @@
+pub mod Move
+pub mod Mild
+pub mod Grammar
