@@ -1,0 +1,6 @@
+pub mod Move
+pub mod MoveState
+pub mod Mild
+pub mod Depth
+pub mod Grammar
+pub mod Append

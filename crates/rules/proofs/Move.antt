@@ -1,0 +1,302 @@
+-- Moving: what a reader does with tokens whose places are moved is what it does with the tokens, moved, since no rule computes with a place.
+-- `Moves` says so for a map of states, records and refusals, and with it that a property of states is kept. Both are closed under what
+-- readers are made of, so each reader's proof follows its text.
+use mathlib.Core.Path.{_≡_, refl, sym, ap, ap₂, _∙_}
+use mathlib.Core.Bool.{Bool, true, false, _||_}
+use mathlib.Core.List.{List, [], _∷_, _++_, map}
+use mathlib.Core.Option.{Option, none, some}
+use Prim.Native.Nat.{ℕ, zero, suc}
+use Prim.Native.Char.{Char}
+use lib.Dec.{ltb, eqb}
+use lib.ListN.{length, length-map}
+use Rattle.lexer.specs.Text.{if_then_else_, maybe, is}
+use Rattle.rules.specs.Lexemes.{Kind, word, number, quoted, mark, newline, blank, comment, invalid, end, bad, Lexeme, nameIn}
+use Rattle.rules.specs.Records.{Record, ST, VC, VL, VI, VS, PF, IN, OR, OS, OI, OF, OD, OX, LL, LI, LD, LC, LT, moveRecord}
+use Rattle.rules.specs.Reader.{Refusal, at, nowhere, encoding, Answer, done, refused, Reader, Line, after, thence, _>>=_, _>>_, return, write, refuse, orBack, attempt, refusedAs, arrive, step, next, ahead, kind, passed, left, refuseHere, isMark, isLineEnd, expect}
+use Rattle.names.specs.Names.{registers, segments, sizes}
+use Rattle.rules.specs.Operands.{immediateOrFar, alone, isIndex, isBase, paired, plusIndex, second, registersAhead, displacement, close, override, isWord, isNumber, memory, operandSized, operand, Operands, operands}
+use Rattle.rules.specs.Expressions.{operatorOf, leftLevel, rightLevel, prefixLevel, character, atomOf, atom, primary, infixes, expr, expression}
+
+map-append : {A B : Type 0} (f : A → B) (s t : List A) → map f (s ++ t) ≡ map f s ++ map f t
+map-append f [] t = refl
+map-append f (x ∷ s) t = ap (λ (r : List _). f x ∷ r) (map-append f s t)
+
+abbrev pub same : {A : Type 0} → A → A
+same a = a
+
+abbrev Option-map : {A : Type 0} → (A → A) → Option A → Option A
+Option-map g none = none
+Option-map g (some a) = some (g a)
+
+-- an answer in whose state P holds, if it is no refusal
+abbrev pub Stays : {S A : Type 0} → (S → Type 0) → Answer S A → Type 0
+Stays P (done w a s) = P s
+Stays P (refused r) = Unit {0}
+
+pub after-stays : {S A : Type 0} (P : S → Type 0) (w : List Record) (p : Answer S A) → Stays P p → Stays P (after w p)
+unfolding after
+after-stays P w (done v a s) h = h
+after-stays P w (refused r) h = tt
+
+pub thence-stays : {S A B : Type 0} (P : S → Type 0) (k : A → Reader S B) → ((a : A) (s : S) → P s → Stays P (k a s)) → (p : Answer S A) → Stays P p → Stays P (thence p k)
+unfolding thence
+thence-stays P k e (done w a s) h = after-stays P w (k a s) (e a s h)
+thence-stays P k e (refused r) h = tt
+
+orBack-stays : {S A : Type 0} (P : S → Type 0) (a : A) (s : S) → P s → (p : Answer S (Option A)) → Stays P p → Stays P (orBack p a s)
+unfolding orBack
+orBack-stays P a s i (done w none t) h = i
+orBack-stays P a s i (done w (some b) t) h = h
+orBack-stays P a s i (refused r) h = tt
+
+module _ {S : Type 0} (σ : S → S) (ρ : Record → Record) (κ : Refusal → Refusal) where
+  unfoldable pub carry : {A : Type 0} → (A → A) → Answer S A → Answer S A
+  carry g (done w a s) = done (map ρ w) (g a) (σ s)
+  carry g (refused r) = refused (κ r)
+
+  pub record Moves (P : S → Type 0) {A : Type 0} (g : A → A) (m m′ : Reader S A) : Type 0 where
+    pub law : (s : S) → m′ (σ s) ≡ carry g (m s)
+    pub keeps : (s : S) → P s → Stays P (m s)
+
+-- what readers are made of
+module _ {S : Type 0} (σ : S → S) (ρ : Record → Record) (κ : Refusal → Refusal) where
+  pub after-carry : {A : Type 0} (g : A → A) (w : List Record) (p : Answer S A) → after (map ρ w) (carry σ ρ κ g p) ≡ carry σ ρ κ g (after w p)
+  unfolding after carry
+  after-carry g w (done v a s) = ap (λ (r : List Record). done r (g a) (σ s)) (sym (map-append ρ w v))
+  after-carry g w (refused r) = refl
+
+  thence-carry : {A B : Type 0} (P : S → Type 0) (g : A → A) (h : B → B) (k k′ : A → Reader S B) → ((a : A) → Moves σ ρ κ P h (k a) (k′ (g a)))
+      → (p : Answer S A) → thence (carry σ ρ κ g p) k′ ≡ carry σ ρ κ h (thence p k)
+  unfolding carry thence
+  thence-carry P g h k k′ e (done w a s) = ap (after (map ρ w)) (e a .law s) ∙ after-carry h w (k a s)
+  thence-carry P g h k k′ e (refused r) = refl
+
+  orBack-carry : {A : Type 0} (g : A → A) (a : A) (s : S) (p : Answer S (Option A))
+      → orBack (carry σ ρ κ (Option-map g) p) (g a) (σ s) ≡ carry σ ρ κ g (orBack p a s)
+  unfolding orBack carry
+  orBack-carry g a s (done w none t) = refl
+  orBack-carry g a s (done w (some b) t) = refl
+  orBack-carry g a s (refused r) = refl
+
+module _ {S : Type 0} {σ : S → S} {ρ : Record → Record} {κ : Refusal → Refusal} {P : S → Type 0} where
+  pub bind : {A B : Type 0} {g : A → A} {h : B → B} {m m′ : Reader S A} {k : A → Reader S B} (k′ : A → Reader S B)
+      → Moves σ ρ κ P g m m′ → ((a : A) → Moves σ ρ κ P h (k a) (k′ (g a))) → Moves σ ρ κ P h (m >>= k) (m′ >>= k′)
+  unfolding _>>=_
+  bind {g = g} {h} {m} {m′} {k} k′ p e = record {
+    law = λ s. ap (λ (q : Answer S _). thence q k′) (p .law s) ∙ thence-carry σ ρ κ P g h k k′ e (m s);
+    keeps = λ s h. thence-stays P k (λ a t i. e a .keeps t i) (m s) (p .keeps s h) }
+
+  pub andThen : {A B : Type 0} {g : A → A} {h : B → B} {m m′ : Reader S A} {k k′ : Reader S B}
+      → Moves σ ρ κ P g m m′ → Moves σ ρ κ P h k k′ → Moves σ ρ κ P h (m >> k) (m′ >> k′)
+  unfolding _>>_
+  andThen {k′ = k′} p e = bind (λ _. k′) p (λ _. e)
+
+  pub returns : {A : Type 0} (g : A → A) (a : A) → Moves σ ρ κ P g (return a) (return (g a))
+  unfolding return carry
+  returns g a = record { law = λ s. refl; keeps = λ s h. h }
+
+  pub writes : (r : Record) → Moves σ ρ κ P same (write r) (write (ρ r))
+  unfolding write carry
+  writes r = record { law = λ s. refl; keeps = λ s h. h }
+
+  pub refuses : {A : Type 0} (g : A → A) (r : Refusal) → Moves σ ρ κ P g (refuse r) (refuse (κ r))
+  unfolding refuse carry
+  refuses g r = record { law = λ s. refl; keeps = λ s h. tt }
+
+  pub whether : {A : Type 0} {g : A → A} {m m′ n n′ : Reader S A} (c : Bool)
+      → Moves σ ρ κ P g m m′ → Moves σ ρ κ P g n n′ → Moves σ ρ κ P g (if c then m else n) (if c then m′ else n′)
+  whether true p q = p
+  whether false p q = q
+
+  pub perhaps : {A B : Type 0} {g : A → A} {m m′ : Reader S A} {k k′ : B → Reader S A} (o : Option B)
+      → Moves σ ρ κ P g m m′ → ((b : B) → Moves σ ρ κ P g (k b) (k′ b)) → Moves σ ρ κ P g (maybe o m k) (maybe o m′ k′)
+  perhaps none p q = p
+  perhaps (some b) p q = q b
+
+  pub attempts : {A : Type 0} {g : A → A} {m m′ : Reader S (Option A)} (a : A) → Moves σ ρ κ P (Option-map g) m m′ → Moves σ ρ κ P g (attempt m a) (attempt m′ (g a))
+  unfolding attempt
+  attempts {g = g} {m} a p = record { law = λ s. ap (λ (q : Answer S (Option _)). orBack q (g a) (σ s)) (p .law s) ∙ orBack-carry σ ρ κ g a s (m s); keeps = λ s h. orBack-stays P a s h (m s) (p .keeps s h) }
+
+-- places moved by f
+module _ (f : ℕ → ℕ) where
+  unfoldable pub moveToken : Lexeme → Lexeme
+  moveToken x = record { from = f (x .from); to = f (x .to); kind = x .kind }
+
+  unfoldable pub moveRefusal : Refusal → Refusal
+  moveRefusal (at n p q) = at n (f p) (f q)
+  moveRefusal (nowhere n) = nowhere n
+  moveRefusal (encoding p q a b) = encoding (f p) (f q) a b
+
+  unfoldable pub moveLine : Line → Line
+  moveLine s = record { last = f (s .last); here = moveToken (s .here); more = map moveToken (s .more) }
+
+  refused-moves : {S A : Type 0} (σ : S → S) (g : A → A) (x : Lexeme) (p q : Answer S A) (o : Option ℕ) → q ≡ carry σ (moveRecord f) moveRefusal g p
+      → maybe o q (λ n. refused (at n (f (x .from)) (f (x .to)))) ≡ carry σ (moveRecord f) moveRefusal g (maybe o p (λ n. refused (at n (x .from) (x .to))))
+  unfolding carry moveRefusal
+  refused-moves σ g x p q none e = e
+  refused-moves σ g x p q (some n) e = refl
+
+  pub arrive-moves : {S A : Type 0} (σ : S → S) (g : A → A) (x : Lexeme) (p q : Answer S A) → q ≡ carry σ (moveRecord f) moveRefusal g p
+      → arrive (moveToken x) q ≡ carry σ (moveRecord f) moveRefusal g (arrive x p)
+  unfolding arrive moveToken
+  arrive-moves σ g x p q e = refused-moves σ g x p q (refusedAs (x .kind)) e
+
+  step-shifts : (xs : List Lexeme) (s : Line) → step (map moveToken xs) (moveLine s) ≡ carry moveLine (moveRecord f) moveRefusal same (step xs s)
+  unfolding step carry moveLine moveToken
+  step-shifts [] s = refl
+  step-shifts (x ∷ xs) s = arrive-moves moveLine same x _ _ refl
+
+  unfoldable pub moveOperands : Operands → Operands
+  moveOperands o = record { count = o .count; from = f (o .from); to = f (o .to) }
+
+module _ (f : ℕ → ℕ) (P : Line → Type 0) where
+  abbrev pub Shifts : {A : Type 0} → (A → A) → Reader Line A → Reader Line A → Type 0
+  Shifts g m m′ = Moves (moveLine f) (moveRecord f) (moveRefusal f) P g m m′
+
+-- The laws: f moves the places, and P, which no step to the next token breaks, is kept.
+module _ (f : ℕ → ℕ) (P : Line → Type 0) (closed : (s : Line) → P s → Stays P (next s)) where
+  pub next-shifts : Shifts f P same next next
+  unfolding next moveLine
+  next-shifts = record { law = λ s. step-shifts f (s .more) s; keeps = closed }
+
+  pub ahead-shifts : Shifts f P (moveToken f) ahead ahead
+  unfolding ahead carry moveLine
+  ahead-shifts = record { law = λ s. refl; keeps = λ s h. h }
+
+  pub kind-shifts : Shifts f P same kind kind
+  unfolding kind carry moveLine moveToken
+  kind-shifts = record { law = λ s. refl; keeps = λ s h. h }
+
+  pub passed-shifts : Shifts f P f passed passed
+  unfolding passed carry moveLine
+  passed-shifts = record { law = λ s. refl; keeps = λ s h. h }
+
+  pub left-shifts : Shifts f P same left left
+  unfolding left carry moveLine
+  left-shifts = record { law = λ s. ap (λ (n : ℕ). done [] n ((moveLine f) s)) (length-map (s .more) (moveToken f)); keeps = λ s h. h }
+
+  pub here-shifts : {A : Type 0} (g : A → A) (n : ℕ) → Shifts f P g (refuseHere n) (refuseHere n)
+  unfolding refuseHere carry moveLine moveToken moveRefusal
+  here-shifts g n = record { law = λ s. refl; keeps = λ s h. tt }
+
+  pub expect-shifts : (a : Char) (n : ℕ) → Shifts f P same (expect a n) (expect a n)
+  unfolding expect
+  expect-shifts a n = bind _ kind-shifts λ k. whether (isMark a k) next-shifts (here-shifts same n)
+
+  -- Expressions.
+  character-shifts : (c : Bool) (s : List ℕ) (x : Lexeme) → Shifts f P same (character c s x) (character c s ((moveToken f) x))
+  unfolding character moveToken moveRecord
+  character-shifts false s x = here-shifts same 16
+  character-shifts true [] x = here-shifts same 17
+  character-shifts true (c ∷ []) x = andThen next-shifts (writes (VC (x .from) (x .to) c))
+  character-shifts true (c ∷ d ∷ s) x = here-shifts same 17
+
+  atomOf-shifts : (k : Kind) (x : Lexeme) → Shifts f P same (atomOf k x) (atomOf k ((moveToken f) x))
+  unfolding atomOf moveToken moveRecord
+  atomOf-shifts (number v) x = andThen next-shifts (writes (VC (x .from) (x .to) v))
+  atomOf-shifts (quoted closed s) x = character-shifts closed s x
+  atomOf-shifts (word w) x = andThen next-shifts (writes (VL (x .from) (x .to)))
+  atomOf-shifts (mark c) x = whether (is "$" c) (andThen next-shifts (bind _ kind-shifts λ k.
+      whether (isMark "$" k) (andThen next-shifts (writes (VS (x .from) (x .to)))) (writes (VI (x .from) (x .to))))) (here-shifts same 21)
+  atomOf-shifts newline x = here-shifts same 21
+  atomOf-shifts blank x = here-shifts same 21
+  atomOf-shifts comment x = here-shifts same 21
+  atomOf-shifts invalid x = here-shifts same 21
+  atomOf-shifts end x = here-shifts same 21
+  atomOf-shifts (bad n) x = here-shifts same 21
+
+  atom-shifts : Shifts f P same atom atom
+  unfolding atom moveToken
+  atom-shifts = bind _ ahead-shifts λ x. atomOf-shifts (x .kind) x
+
+  module _ {inner : ℕ → Reader Line (Unit {0})} (each : (level : ℕ) → Shifts f P same (inner level) (inner level)) where
+    primary-shifts : Shifts f P same (primary inner) (primary inner)
+    unfolding primary moveToken moveRecord moveRefusal
+    primary-shifts = bind _ ahead-shifts λ x.
+      whether (isMark "(" (x .kind)) (andThen (andThen next-shifts (each 0)) (expect-shifts ")" 14))
+      (perhaps (operatorOf (x .kind)) atom-shifts λ op. andThen next-shifts (andThen
+        (whether (ltb op 2) (each prefixLevel) (refuses same (nowhere 22)))
+        (bind _ passed-shifts λ t. writes (PF (x .from) t op))))
+
+    infixes-shifts : (n level p : ℕ) → Shifts f P same (infixes n inner level p) (infixes n inner level (f p))
+    unfolding infixes moveRecord
+    infixes-shifts zero level p = returns same tt
+    infixes-shifts (suc n) level p = bind _ kind-shifts λ k. perhaps (operatorOf k) (returns same tt) λ op.
+      whether (ltb (leftLevel op) level) (returns same tt) (andThen next-shifts (andThen (each (rightLevel op))
+        (bind _ passed-shifts λ t. andThen (writes (IN p t op)) (infixes-shifts n level p))))
+
+  expr-shifts : (d level : ℕ) → Shifts f P same (expr d level) (expr d level)
+  unfolding expr moveToken
+  expr-shifts zero level = here-shifts same 3
+  expr-shifts (suc d) level = bind _ ahead-shifts λ x. andThen (primary-shifts (expr-shifts d)) (bind _ left-shifts λ n.
+      infixes-shifts (expr-shifts d) n level (x .from))
+
+  pub expression-shifts : Shifts f P same expression expression
+  unfolding expression
+  expression-shifts = expr-shifts 32 0
+
+  -- Operands.
+  immediateOrFar-shifts : Shifts f P same immediateOrFar immediateOrFar
+  unfolding immediateOrFar moveToken moveRecord
+  immediateOrFar-shifts = bind _ ahead-shifts λ x. andThen expression-shifts (bind _ kind-shifts λ k. whether (isMark ":" k)
+      (andThen next-shifts (andThen expression-shifts (bind _ passed-shifts λ t. writes (OF (x .from) t))))
+      (bind _ passed-shifts λ t. writes (OI (x .from) t)))
+
+  plusIndex-shifts : (p r : ℕ) → Shifts f P (Option-map same) (plusIndex p r) (plusIndex (f p) r)
+  unfolding plusIndex moveToken moveRefusal
+  plusIndex-shifts p r = andThen next-shifts (bind _ ahead-shifts λ x. perhaps (nameIn registers (x .kind)) (returns (Option-map same) none) λ q.
+      whether (isIndex q)
+        (andThen next-shifts (bind _ passed-shifts λ t. whether (isIndex r) (refuses (Option-map same) (at 33 p t)) (returns (Option-map same) (some (paired r q)))))
+        (refuses (Option-map same) (encoding p (x .to) r q)))
+
+  second-shifts : (p r : ℕ) → Shifts f P same (second p r) (second (f p) r)
+  unfolding second
+  second-shifts p r = bind _ kind-shifts λ k. whether (isMark "+" k) (attempts (alone r) (plusIndex-shifts p r)) (returns same (alone r))
+
+  registersAhead-shifts : Shifts f P same registersAhead registersAhead
+  unfolding registersAhead moveToken moveRefusal
+  registersAhead-shifts = bind _ ahead-shifts λ x. bind _ passed-shifts λ t. perhaps (nameIn registers (x .kind)) (returns same none) λ r.
+      whether (isBase r || isIndex r) (andThen next-shifts (bind _ (second-shifts (x .from) r) λ e. returns same (some e)))
+        (refuses same (encoding (x .from) t r 255))
+
+  displacement-shifts : Shifts f P same displacement displacement
+  unfolding displacement
+  displacement-shifts = bind _ kind-shifts λ k. whether (isMark "]" k) (returns same 0) (andThen expression-shifts (returns same 1))
+
+  close-shifts : (p size segment : ℕ) (e : Option ℕ) (has : ℕ) → Shifts f P same (close p size segment e has) (close (f p) size segment e has)
+  unfolding close moveRecord moveRefusal
+  close-shifts p size segment e has = andThen (expect-shifts "]" 13) (bind _ passed-shifts λ t. perhaps e
+      (whether (eqb has 0) (refuses same (at 32 p t)) (writes (OD p t size segment)))
+      λ n. writes (OX p t n has size segment))
+
+  override-shifts : Shifts f P same override override
+  unfolding override
+  override-shifts = bind _ kind-shifts λ k. perhaps (nameIn segments k) (returns same 0) λ s. andThen next-shifts (andThen (expect-shifts ":" 12) (returns same (suc s)))
+
+  memory-shifts : (size : ℕ) → Shifts f P same (memory size) (memory size)
+  unfolding memory moveToken
+  memory-shifts size = bind _ ahead-shifts λ x. andThen next-shifts (bind _ kind-shifts λ k. whether (isWord k)
+      (bind _ override-shifts λ s. bind _ registersAhead-shifts λ e. bind _ displacement-shifts λ has. close-shifts (x .from) size s e has)
+      (whether (isNumber k) (andThen expression-shifts (close-shifts (x .from) size 0 none 1)) (here-shifts same 24)))
+
+  operandSized-shifts : (n size : ℕ) → Shifts f P same (operandSized n size) (operandSized n size)
+  unfolding operandSized moveToken moveRecord
+  operandSized-shifts zero size = immediateOrFar-shifts
+  operandSized-shifts (suc n) size = bind _ ahead-shifts λ x. whether (isMark "[" (x .kind)) (memory-shifts size)
+      (perhaps (nameIn registers (x .kind)) (perhaps (nameIn segments (x .kind)) (perhaps (nameIn sizes (x .kind)) immediateOrFar-shifts
+        (λ z. andThen next-shifts (operandSized-shifts n (suc z))))
+        (λ s. andThen next-shifts (writes (OS (x .from) (x .to) s))))
+        (λ r. andThen next-shifts (writes (OR (x .from) (x .to) r))))
+
+  operand-shifts : Shifts f P same operand operand
+  unfolding operand
+  operand-shifts = bind _ left-shifts λ n. operandSized-shifts (suc n) 0
+
+  pub operands-shifts : Shifts f P (moveOperands f) operands operands
+  unfolding operands moveToken moveOperands
+  operands-shifts = bind _ ahead-shifts λ x. bind _ passed-shifts λ l. whether (isLineEnd (x .kind)) (returns (moveOperands f) (record { count = 0; from = l; to = l }))
+      (andThen operand-shifts (bind _ kind-shifts λ k. whether (isLineEnd k)
+        (bind _ passed-shifts λ t. returns (moveOperands f) (record { count = 1; from = x .from; to = t }))
+        (whether (isMark "," k)
+          (andThen next-shifts (andThen operand-shifts (bind _ passed-shifts λ t. returns (moveOperands f) (record { count = 2; from = x .from; to = t }))))
+          (here-shifts (moveOperands f) 11))))

@@ -1,0 +1,190 @@
+-- SHIFT for statements and the full read.
+use mathlib.Core.Path.{_≡_, refl, sym, ap, ap₂, _∙_}
+use mathlib.Core.Bool.{Bool, true, false, _||_}
+use mathlib.Core.List.{List, [], _∷_, _++_, map}
+use mathlib.Core.Option.{Option, none, some}
+use Prim.Native.Nat.{ℕ, zero, suc}
+use Prim.Native.Char.{Char}
+use lib.Dec.{ltb, eqb}
+use lib.ListN.{length, length-map, take}
+use Rattle.lexer.specs.Text.{if_then_else_, maybe, is}
+use Rattle.rules.specs.Lexemes.{Kind, word, number, quoted, mark, newline, blank, comment, invalid, end, bad, Lexeme, nameIn, operationIn}
+use Rattle.names.specs.Names.{directives}
+use Rattle.rules.specs.Records.{Record, ST, LL, LI, LD, LC, LT, field, moveRecord}
+use Rattle.rules.specs.Reader.{Refusal, at, nowhere, encoding, Answer, done, refused, Reader, Line, after, thence, _>>=_, _>>_, return, write, refuse, refusedAs, arrive, next, ahead, kind, passed, left, refuseHere, isMark, isLineEnd, expect}
+use Rattle.rules.specs.Operands.{isWord, Operands, operands}
+use Rattle.rules.specs.Expressions.{expression}
+use Rattle.rules.specs.Statements.{Row, State, over, inLine, firstOf, enter, stepRow, nextRow, lineEnd, skip, skipLines, passing, label, rep, repne, instruction, constant, literalOf, literals, someData, dataOf, line, content, times, begun, statement, statements, readRows}
+use Rattle.rules.proofs.Move.{Stays, same, carry, Moves, bind, andThen, returns, writes, refuses, whether, perhaps, moveToken, moveRefusal, moveLine, Shifts, arrive-moves, next-shifts, ahead-shifts, kind-shifts, passed-shifts, left-shifts, here-shifts, expression-shifts, moveOperands, operands-shifts}
+
+module _ (f : ℕ → ℕ) where
+  unfoldable pub moveRow : Row → Row
+  moveRow r = record { first = moveToken f (r .first); more = map (moveToken f) (r .more) }
+
+  unfoldable pub moveState : State → State
+  moveState s = record { line = moveLine f (s .line); below = map moveRow (s .below) }
+
+  over-carry : {A : Type 0} (g : A → A) (rs : List Row) (p : Answer Line A)
+      → over (map moveRow rs) (carry (moveLine f) (moveRecord f) (moveRefusal f) g p) ≡ carry moveState (moveRecord f) (moveRefusal f) g (over rs p)
+  unfolding over carry moveState
+  over-carry g rs (done w a l) = refl
+  over-carry g rs (refused r) = refl
+
+  stepRow-shifts : (rs : List Row) (s : State) → stepRow (map moveRow rs) (moveState s) ≡ carry moveState (moveRecord f) (moveRefusal f) same (stepRow rs s)
+  unfolding stepRow carry moveState moveRow firstOf enter moveLine moveToken
+  stepRow-shifts [] s = refl
+  stepRow-shifts (r ∷ rs) s = arrive-moves f moveState same (r .first) _ _ refl
+
+  if-carry : {A : Type 0} (g : A → A) (b : Bool) (p q p′ q′ : Answer State A)
+      → p′ ≡ carry moveState (moveRecord f) (moveRefusal f) g p → q′ ≡ carry moveState (moveRecord f) (moveRefusal f) g q
+      → (if b then p′ else q′) ≡ carry moveState (moveRecord f) (moveRefusal f) g (if b then p else q)
+  if-carry g true p q p′ q′ e e′ = e
+  if-carry g false p q p′ q′ e e′ = e′
+
+  skip-shifts : (l : Line) (rs : List Row) → skip (moveLine f l) (map moveRow rs) ≡ carry moveState (moveRecord f) (moveRefusal f) same (skip l rs)
+  unfolding skip carry moveState moveRow firstOf moveLine moveToken
+  skip-shifts l [] = refl
+  skip-shifts l (r ∷ rs) = if-carry same (isLineEnd (l .here .kind)) _ _ _ _ (arrive-moves f moveState same (r .first) _ _ (skip-shifts _ rs)) refl
+
+
+unit-stays : {A : Type 0} (p : Answer Line A) → Stays (λ _. Unit {0}) p
+unit-stays (done w a l) = tt
+unit-stays (refused r) = tt
+
+pub unit-state : (l : Line) (rs : List Row) → Unit {0} → Stays (λ _. Unit {0}) (next l)
+unit-state l rs h = unit-stays (next l)
+
+pub unit-row : (l : Line) (r : Row) (rs : List Row) → Unit {0} → Unit {0}
+unit-row l r rs h = tt
+
+module _ (f : ℕ → ℕ) (P : Line → Type 0) (closed : (s : Line) → P s → Stays P (next s)) where
+  pub label-shifts : (x : Lexeme) → Shifts f P same (label x) (label (moveToken f x))
+  unfolding label moveToken moveRecord
+  label-shifts x = bind _ (kind-shifts f P closed) λ k. andThen (whether (isMark ":" k) (next-shifts f P closed) (returns same tt)) (writes (LL (x .from) (x .to)))
+
+  literalOf-shifts : (k : Kind) (width : ℕ) {others : Reader Line (List ℕ)} → Shifts f P same others others → Shifts f P same (literalOf k width others) (literalOf k width others)
+  unfolding literalOf
+  literalOf-shifts newline width o = returns same []
+  literalOf-shifts end width o = returns same []
+  literalOf-shifts (mark c) width o = whether (is "," c) (andThen (next-shifts f P closed) o) (here-shifts f P closed same 15)
+  literalOf-shifts (quoted shut s) width o = whether shut (bind _ (andThen (next-shifts f P closed) o) λ ds. returns same (s ++ ds)) (here-shifts f P closed same 26)
+  literalOf-shifts (number v) width o = bind _ (andThen (next-shifts f P closed) o) λ ds. returns same (take width (field v) ++ ds)
+  literalOf-shifts (word w) width o = here-shifts f P closed same 15
+  literalOf-shifts blank width o = here-shifts f P closed same 15
+  literalOf-shifts comment width o = here-shifts f P closed same 15
+  literalOf-shifts invalid width o = here-shifts f P closed same 15
+  literalOf-shifts (bad r) width o = here-shifts f P closed same 15
+
+  literals-shifts : (n width : ℕ) → Shifts f P same (literals n width) (literals n width)
+  unfolding literals
+  literals-shifts zero width = returns same []
+  literals-shifts (suc n) width = bind _ (kind-shifts f P closed) λ k. literalOf-shifts k width (literals-shifts n width)
+
+
+module _ (f : ℕ → ℕ) (P : State → Type 0) where
+  abbrev pub ShiftsState : {A : Type 0} → (A → A) → Reader State A → Reader State A → Type 0
+  ShiftsState g m m′ = Moves (moveState f) (moveRecord f) (moveRefusal f) P g m m′
+
+-- The laws of what reads in a line, for any P of lines, and of what reads in a state.
+module _ (f : ℕ → ℕ) (P : State → Type 0)
+    (closed : (l : Line) (rs : List Row) → P (record { line = l; below = rs }) → Stays (λ t. P (record { line = t; below = rs })) (next l))
+    (closed-row : (l : Line) (r : Row) (rs : List Row) → P (record { line = l; below = r ∷ rs }) → P (enter r rs)) where
+  over-stays : {A : Type 0} (rs : List Row) (p : Answer Line A) → Stays (λ t. P (record { line = t; below = rs })) p → Stays P (over rs p)
+  unfolding over
+  over-stays rs (done w a l) h = h
+  over-stays rs (refused r) h = tt
+
+  arrive-stays : {A : Type 0} (x : Lexeme) (p : Answer State A) → Stays P p → Stays P (arrive x p)
+  unfolding arrive
+  arrive-stays x p h = go (refusedAs (x .kind))
+    where
+      go : (o : Option ℕ) → Stays P (maybe o p (λ n. refused (at n (x .from) (x .to))))
+      go none = h
+      go (some n) = tt
+
+  stepRow-stays : (l : Line) (rs : List Row) → P (record { line = l; below = rs }) → Stays P (stepRow rs (record { line = l; below = rs }))
+  unfolding stepRow
+  stepRow-stays l [] h = h
+  stepRow-stays l (r ∷ rs) h = arrive-stays (r .first) _ (closed-row l r rs h)
+
+  skip-stays : (l : Line) (rs : List Row) → P (record { line = l; below = rs }) → Stays P (skip l rs)
+  unfolding skip enter
+  skip-stays l [] h = h
+  skip-stays l (r ∷ rs) h = go (isLineEnd (l .here .kind)) (skip-stays _ rs (closed-row l r rs h))
+    where
+      t : Line
+      t = firstOf r
+      go : (c : Bool) → Stays P (skip t rs) → Stays P (if_then_else_ {A = Answer State (Unit {0})} c (arrive (r .first) (skip t rs)) (done [] tt (record { line = l; below = r ∷ rs })))
+      go true i = arrive-stays (r .first) (skip t rs) i
+      go false i = h
+
+  pub inLines : {A : Type 0} {g : A → A} {m m′ : Reader Line A} → ((Q : Line → Type 0) → ((l : Line) → Q l → Stays Q (next l)) → Shifts f Q g m m′) → ShiftsState f P g (inLine m) (inLine m′)
+  unfolding inLine moveState
+  inLines {g = g} {m} p = record {
+    law = λ s. ap (over (map (moveRow f) (s .below))) (p (λ _. Unit {0}) (λ l h. unit-stays (next l)) .law (s .line)) ∙ over-carry f g (s .below) (m (s .line));
+    keeps = λ s h. over-stays (s .below) (m (s .line)) (p (λ t. P (record { line = t; below = s .below })) (λ l i. closed l (s .below) i) .keeps (s .line) h) }
+
+  nextRow-shifts : ShiftsState f P same nextRow nextRow
+  unfolding nextRow moveState
+  nextRow-shifts = record { law = λ s. stepRow-shifts f (s .below) s; keeps = λ s h. stepRow-stays (s .line) (s .below) h }
+
+  lineEnd-shifts : ShiftsState f P same lineEnd lineEnd
+  unfolding lineEnd
+  lineEnd-shifts = bind _ (inLines (kind-shifts f)) λ k. whether (isLineEnd k) nextRow-shifts (inLines (λ Q c. here-shifts f Q c same 10))
+
+  pub skipLines-shifts : ShiftsState f P same skipLines skipLines
+  unfolding skipLines moveState
+  skipLines-shifts = record { law = λ s. skip-shifts f (s .line) (s .below); keeps = λ s h. skip-stays (s .line) (s .below) h }
+
+  passing-shifts : {m m′ : Reader State (Unit {0})} → ShiftsState f P same m m′ → ShiftsState f P same (passing m) (passing m′)
+  unfolding passing
+  passing-shifts p = andThen (inLines (next-shifts f)) p
+
+  pub instruction-shifts : (x : Lexeme) (op : ℕ) → ShiftsState f P same (instruction x op) (instruction (moveToken f x) op)
+  unfolding instruction moveToken moveRecord moveOperands
+  instruction-shifts x op = whether (eqb op rep || eqb op repne)
+      (bind _ (inLines (passed-shifts f)) λ t. writes (LI (x .from) t op 0 t t))
+      (bind _ (inLines (operands-shifts f)) λ o. bind _ (inLines (passed-shifts f)) λ t. andThen lineEnd-shifts (writes (LI (x .from) t op (o .count) (o .from) (o .to))))
+
+  pub constant-shifts : (x : Lexeme) → ShiftsState f P same (constant x) (constant (moveToken f x))
+  unfolding constant moveToken moveRecord
+  constant-shifts x = andThen (inLines (expression-shifts f)) (bind _ (inLines (passed-shifts f)) λ t. andThen lineEnd-shifts (writes (LC (x .from) t)))
+
+  someData-shifts : (x : Lexeme) (ds : List ℕ) → ShiftsState f P same (someData x ds) (someData (moveToken f x) ds)
+  unfolding someData moveToken moveRecord moveRefusal
+  someData-shifts x [] = refuses same (at 23 (x .from) (x .to))
+  someData-shifts x (b ∷ bs) = bind _ (inLines (passed-shifts f)) λ t. andThen lineEnd-shifts (writes (LD (x .from) t (b ∷ bs)))
+
+  pub dataOf-shifts : (x : Lexeme) (width : ℕ) → ShiftsState f P same (dataOf x width) (dataOf (moveToken f x) width)
+  unfolding dataOf
+  dataOf-shifts x width = bind _ (inLines (left-shifts f)) λ n. bind _ (inLines (λ Q c. literals-shifts f Q c (suc n) width)) λ ds. someData-shifts x ds
+
+  module _ (table : List ℕ) where
+    line-shifts : {m : Reader State (Unit {0})} → ShiftsState f P same m m → ShiftsState f P same (line table m) (line table m)
+    unfolding line moveToken
+    line-shifts p = bind _ (inLines (ahead-shifts f)) λ x. perhaps (operationIn table (x .kind)) (perhaps (nameIn directives (x .kind))
+        (whether (isWord (x .kind)) (passing-shifts (inLines (λ Q c. label-shifts f Q c x))) (inLines (λ Q c. here-shifts f Q c same 20)))
+        λ n. whether (eqb n 0) (passing-shifts (constant-shifts x)) (whether (ltb n 3) (passing-shifts (dataOf-shifts x n)) p)) λ op. passing-shifts (instruction-shifts x op)
+
+    pub content-shifts : {m : Reader State (Unit {0})} (x : Lexeme) → ShiftsState f P same m m → ShiftsState f P same (content table m x) (content table m (moveToken f x))
+    unfolding content moveToken moveRecord moveRefusal
+    content-shifts x p = bind _ (inLines (kind-shifts f)) λ k. andThen (whether (isLineEnd k) (refuses same (at 34 (x .from) (x .to))) (line-shifts p)) (writes LT)
+
+    pub times-shifts : (n : ℕ) → ShiftsState f P same (times table n) (times table n)
+    unfolding times
+    times-shifts zero = inLines (λ Q c. here-shifts f Q c same 5)
+    times-shifts (suc n) = bind _ (inLines (ahead-shifts f)) λ x. passing-shifts (andThen (inLines (expression-shifts f)) (andThen skipLines-shifts (content-shifts x (times-shifts n))))
+
+    begun-shifts : ShiftsState f P same (begun table) (begun table)
+    unfolding begun moveToken moveRecord
+    begun-shifts = bind _ (inLines (ahead-shifts f)) λ x. whether (isLineEnd (x .kind)) (returns same false)
+        (andThen (andThen (writes (ST (x .from))) (line-shifts (times-shifts 16))) (returns same true))
+
+    pub statement-shifts : ShiftsState f P same (statement table) (statement table)
+    unfolding statement
+    statement-shifts = andThen skipLines-shifts begun-shifts
+
+    pub statements-shifts : (n : ℕ) → ShiftsState f P same (statements table n) (statements table n)
+    unfolding statements
+    statements-shifts zero = returns same tt
+    statements-shifts (suc n) = bind _ statement-shifts λ b. whether b (statements-shifts n) (returns same tt)

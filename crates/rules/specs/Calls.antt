@@ -1,0 +1,106 @@
+-- Whole calls: what each entry point answers, and what each lent buffer holds afterwards. Document 01, "Refusals and what they leave".
+use mathlib.Core.Bool.{Bool, true, false}
+use mathlib.Core.List.{List, [], _∷_, _++_}
+use mathlib.Core.Option.{Option, none, some}
+use Prim.Native.Nat.{ℕ, zero, suc, _+_}
+use lib.Dec.{ltb}
+use lib.ListN.{length, drop}
+use Rattle.lexer.specs.Text.{if_then_else_, maybe}
+use Rattle.lexer.specs.Tokens.{tokenAt, faultNumber}
+use Rattle.lexer.specs.declared.Token.{Token}
+use Rattle.lexer.specs.declared.TokenRead.{TokenRead}
+use Rattle.lexer.specs.declared.TokenRead.the-variants.{Read, Refused}
+use Rattle.rules.specs.Lexemes.{tokensFrom}
+use Rattle.rules.specs.Records.{Record, listing}
+use Rattle.rules.specs.Reader.{Refusal, at, nowhere, Answer, done, refused, arrive}
+use Rattle.rules.specs.Statements.{Row, State, enter, rows, statement, Outcome, accepted, refusal, fullRead, openStatements}
+
+-- A call's answer: what it gives, or a refusal.
+pub data Result (A : Type 0) : Type 0 where
+  gives : A → Result A
+  refuses : Refusal → Result A
+
+unfoldable pub unless : {A : Type 0} → Bool → Refusal → Result A → Result A
+unless b r a = if b then (refuses r) else a
+
+-- 1: above 65,536 bytes.
+unfoldable pub mostBytes : ℕ
+mostBytes = 65536
+
+unfoldable pub tooLong : List ℕ → Bool
+tooLong source = ltb mostBytes (length source)
+
+-- 2, at the first byte above 127; `foreign` finds its place among those from place p on.
+unfoldable pub foreign : ℕ → List ℕ → Option ℕ
+foreign p [] = none
+foreign p (c ∷ cs) = let r : Option ℕ = foreign (suc p) cs in if ltb 127 c then (some p) else r
+
+unfoldable pub ascii : {A : Type 0} → List ℕ → Result A → Result A
+ascii source a = maybe (foreign 0 source) a λ p. refuses (at 2 p (suc p))
+
+unfoldable pub lent : {A : Type 0} → List ℕ → Result A → Result A
+lent source a = unless (tooLong source) (nowhere 1) (ascii source a)
+
+-- 42: place beyond the end. Order: 42, 1, 2.
+unfoldable pub lentAt : {A : Type 0} → List ℕ → ℕ → Result A → Result A
+lentAt source p a = unless (ltb (length source) p) (nowhere 42) (lent source a)
+
+-- 4: listing buffer shorter than the records to write.
+unfoldable pub inRoom : {A : Type 0} → ℕ → List Record → A → Result A
+inRoom room w a = unless (ltb room (length (listing w))) (nowhere 4) (gives a)
+
+-- Accepted calls write only the bytes of the result, from a buffer's first byte on. Everything lent is left as it was at each refusal.
+unfoldable pub overwrite : List ℕ → List ℕ → List ℕ
+overwrite b buffer = b ++ drop (length b) buffer
+
+unfoldable pub leaves : {A : Type 0} → (A → List ℕ) → Result A → List ℕ → List ℕ
+leaves b (gives a) buffer = overwrite (b a) buffer
+leaves b (refuses r) buffer = buffer
+
+-- The token read at a place. It is lent no buffer.
+abbrev pub tokenRead : ℕ → TokenRead → Result Token
+tokenRead p (Read t) = gives t
+tokenRead p (Refused n f) = refuses (at (faultNumber f) p (p + n))
+
+unfoldable pub tokenCall : List ℕ → ℕ → Result Token
+tokenCall source p = lentAt source p (tokenRead p (tokenAt (drop p source)))
+
+-- The full read, lent a listing buffer: the records that it writes.
+unfoldable pub listed : ℕ → Outcome → Result (List Record)
+listed room (accepted w) = inRoom room w w
+listed room (refusal r) = refuses r
+
+unfoldable pub fullCall : List ℕ → List ℕ → ℕ → Result (List Record)
+fullCall table source room = lent source (listed room (fullRead table source))
+
+unfoldable pub fullBuffer : List ℕ → List ℕ → List ℕ → List ℕ
+fullBuffer table source buffer = leaves listing (fullCall table source (length buffer)) buffer
+
+-- The statement read at a place, lent a listing buffer. It begins as the parser would at that place, with spans counted from byte 0, and
+-- gives that one statement's records, ST first, and the place of the token ahead, or answers that none is left and writes nothing.
+pub data Found : Type 0 where
+  nothing : Found
+  found : (records : List Record) (ahead : ℕ) → Found
+
+unfoldable pub oneFound : ℕ → Answer State Bool → Result Found
+oneFound room (done w true s) = inRoom room w (found w (s .line .here .from))
+oneFound room (done w false s) = gives nothing
+oneFound room (refused r) = refuses r
+
+unfoldable pub oneRead : List ℕ → List Row → Answer State Bool
+oneRead table [] = refused (nowhere 0)  -- no source has no row
+oneRead table (r ∷ rs) = arrive (r .first) (statement table (enter r rs))
+
+unfoldable pub statementCall : List ℕ → List ℕ → ℕ → ℕ → Result Found
+statementCall table source p room = lentAt source p (oneFound room (oneRead table (rows (tokensFrom p 0 (drop p source)))))
+
+unfoldable pub foundBytes : Found → List ℕ
+foundBytes nothing = []
+foundBytes (found w p) = listing w
+
+unfoldable pub statementBuffer : List ℕ → List ℕ → ℕ → List ℕ → List ℕ
+statementBuffer table source p buffer = leaves foundBytes (statementCall table source p (length buffer)) buffer
+
+unfoldable pub openCalls : Unit {0}
+unfolding openStatements unless mostBytes tooLong foreign ascii lent lentAt inRoom overwrite leaves tokenCall listed fullCall fullBuffer oneFound oneRead statementCall foundBytes statementBuffer
+openCalls = tt

@@ -1,0 +1,25 @@
+-- `evaluate`: the exact sum, difference or product, or the quotient truncated toward zero. Document 01, "Operands and statements".
+use mathlib.Core.Bool.{Bool, true, false}
+use Prim.Native.Nat.{ℕ}
+use lib.Dec.{eqb, ltb}
+use lib.IntN.{ℤ, pos, negsuc, natAbs, _+ℤ_, _-ℤ_, _*ℤ_}
+use lib.Signed.{mag, quotZ}
+use Rattle.lexer.specs.Text.{if_then_else_}
+use Rattle.rules.specs.Reader.{nowhere}
+use Rattle.rules.specs.Calls.{Result, gives, refuses, unless}
+
+-- 50: beyond 32 signed bits. `mag` is n for n and for -(n + 1).
+unfoldable pub signed32 : ℤ → Result ℤ
+signed32 z = if ltb (mag z) 2147483648 then (gives z) else (refuses (nowhere 50))
+
+-- An operator, by its number, on two numbers; 51: zero divisor.
+unfoldable pub evaluate : ℕ → ℤ → ℤ → Result ℤ
+evaluate op a b =
+    if eqb op 0 then (signed32 (a +ℤ b))
+    else if eqb op 1 then (signed32 (a -ℤ b))
+    else if eqb op 2 then (signed32 (a *ℤ b))
+    else unless (eqb (natAbs b) 0) (nowhere 51) (signed32 (quotZ a b))
+
+unfoldable pub openEvaluate : Unit {0}
+unfolding unless signed32 evaluate
+openEvaluate = tt

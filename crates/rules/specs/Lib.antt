@@ -1,0 +1,12 @@
+pub mod Lexemes
+pub mod Records
+pub mod Reader
+pub mod Expressions
+pub mod Operands
+pub mod Statements
+pub mod Calls
+pub mod Evaluate
+pub mod Decode
+pub mod WellFormed
+pub mod Patch
+pub mod Known

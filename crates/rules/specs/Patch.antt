@@ -1,0 +1,145 @@
+-- The patch. Document 01, "The patch".
+use mathlib.Core.Bool.{Bool, true, false, not, _&&_, _||_}
+use mathlib.Core.List.{List, [], _∷_, _++_, map}
+use mathlib.Core.Option.{Option, none, some}
+use Prim.Native.Nat.{ℕ, zero, suc, pred, _+_, _-_}
+use lib.Dec.{eqb, leb, ltb}
+use lib.ListN.{length, take, drop, getD}
+use Rattle.lexer.specs.Text.{if_then_else_, maybe, is, among, run}
+use Rattle.lexer.specs.Tokens.{inComment}
+use Rattle.rules.specs.Lexemes.{Lexeme, tokensFrom}
+use Rattle.rules.specs.Records.{Record, ST, VC, VL, VI, VS, PF, IN, OR, OS, OI, OF, OD, OX, LL, LI, LD, LC, LT, moveRecord, listing}
+use Rattle.rules.specs.Reader.{Refusal, at, nowhere, encoding, isLineEnd}
+use Rattle.rules.specs.Statements.{Outcome, accepted, refusal, fullRead, readFrom}
+use Rattle.rules.specs.Calls.{Result, gives, refuses, unless, tooLong, ascii, inRoom, leaves, openCalls}
+use Rattle.rules.specs.Decode.{decode, openDecode}
+use Rattle.rules.specs.WellFormed.{wellFormed, openWellFormed}
+
+-- A line begins at place 0 and after each line feed.
+unfoldable pub beginsLine : List ℕ → ℕ → Bool
+beginsLine s a = eqb a 0 || (leb a (length s) && is "\n" (getD s (pred a) 0))
+
+-- A line runs from place a to before the next line feed or the end: what stands above it, the line, and what stands behind it.
+unfoldable pub above : List ℕ → ℕ → List ℕ
+above s a = take a s
+
+unfoldable pub lineAt : List ℕ → ℕ → List ℕ
+lineAt s a = take (run inComment (drop a s)) (drop a s)
+
+unfoldable pub behind : List ℕ → ℕ → List ℕ
+behind s a = drop (run inComment (drop a s)) (drop a s)
+
+-- The edited source is the old one with the line's bytes exchanged for the new text.
+unfoldable pub edited : List ℕ → ℕ → List ℕ → List ℕ
+edited s a new = above s a ++ (new ++ behind s a)
+
+-- The lines that end in a line feed; l is what is passed of the first.
+unfoldable pub linesFrom : List ℕ → List ℕ → List (List ℕ)
+linesFrom l [] = []
+linesFrom l (c ∷ cs) = let r : List (List ℕ) = linesFrom [] cs in let q : List (List ℕ) = linesFrom (l ++ (c ∷ [])) cs in if is "\n" c then (l ∷ r) else q
+
+-- A line that has only blanks and a comment has no token but its end.
+unfoldable pub allEnds : List Lexeme → Bool
+allEnds [] = true
+allEnds (x ∷ xs) = isLineEnd (x .kind) && allEnds xs
+
+unfoldable pub bareLine : List ℕ → Bool
+bareLine l = allEnds (tokensFrom 0 0 l)
+
+-- The last of some lines that has more.
+unfoldable pub nearest : List (List ℕ) → Option (List ℕ)
+nearest [] = none
+nearest (l ∷ ls) = maybe (nearest ls) (if bareLine l then none else (some l)) some
+
+-- A line leaves a `times` without its content where the full read, given that line alone as its source, refuses it with 34.
+unfoldable pub lacksContent : Refusal → Bool
+lacksContent (at n f t) = eqb n 34
+lacksContent (nowhere n) = false
+lacksContent (encoding f t a b) = false
+
+unfoldable pub isOpen : Outcome → Bool
+isOpen (accepted w) = false
+isOpen (refusal r) = lacksContent r
+
+unfoldable pub leavesOpen : List ℕ → List ℕ → Bool
+leavesOpen table l = isOpen (fullRead table l)
+
+-- 40: the replaced line, the new one, or the nearest line above that holds more than blanks and a comment leaves a `times` open.
+unfoldable pub openLine : List ℕ → List ℕ → ℕ → List ℕ → Bool
+openLine table s a new =
+    leavesOpen table (lineAt s a) || (leavesOpen table new || maybe (nearest (linesFrom [] (above s a))) false (leavesOpen table))
+
+-- The records of the statements with place below a, and those from the first statement with place a or above on.
+unfoldable pub statementFrom : ℕ → Record → Bool
+statementFrom a (ST p) = leb a p
+statementFrom a (VC f t v) = false
+statementFrom a (VL f t) = false
+statementFrom a (VI f t) = false
+statementFrom a (VS f t) = false
+statementFrom a (PF f t o) = false
+statementFrom a (IN f t o) = false
+statementFrom a (OR f t r) = false
+statementFrom a (OS f t s) = false
+statementFrom a (OI f t) = false
+statementFrom a (OF f t) = false
+statementFrom a (OD f t z s) = false
+statementFrom a (OX f t e d z s) = false
+statementFrom a (LL f t) = false
+statementFrom a (LI f t o n f′ t′) = false
+statementFrom a (LD f t d) = false
+statementFrom a (LC f t) = false
+statementFrom a LT = false
+
+unfoldable pub recordsBelow : ℕ → List Record → List Record
+recordsBelow a [] = []
+recordsBelow a (r ∷ rs) = let q : List Record = r ∷ recordsBelow a rs in if statementFrom a r then [] else q
+
+unfoldable pub recordsOn : ℕ → List Record → List Record
+recordsOn a [] = []
+recordsOn a (r ∷ rs) = let q : List Record = recordsOn a rs in if statementFrom a r then (r ∷ rs) else q
+
+-- What the patch gives: the edited source and its listing.
+pub record Edit : Type 0 where
+  pub source : List ℕ
+  pub records : List Record
+
+-- Statements with place below a are copied; those from a to before a + p are dropped for the new line's, w; the rest are copied with ST and
+-- spans moved by q − p.
+unfoldable pub exchanged : ℕ → ℕ → ℕ → List Record → List Record → List Record
+exchanged a p q rs w = recordsBelow a rs ++ (w ++ map (moveRecord (λ k. k + q - p)) (recordsOn (a + p) rs))
+
+-- 6, then 4.
+unfoldable pub placedIn : ℕ → ℕ → List ℕ → List Record → Result Edit
+placedIn roomS roomL s w = unless (ltb roomS (length s)) (nowhere 6) (inRoom roomL w (record { source = s; records = w }))
+
+unfoldable pub reread : List ℕ → List Record → ℕ → List ℕ → ℕ → ℕ → Outcome → Result Edit
+reread s rs a new roomS roomL (accepted w) = placedIn roomS roomL (edited s a new) (exchanged a (length (lineAt s a)) (length new) rs w)
+reread s rs a new roomS roomL (refusal r) = refuses r
+
+-- 41, then 40; then only the new line, with its line feed, is read, in its place.
+unfoldable pub patched : List ℕ → List ℕ → Option (List Record) → ℕ → List ℕ → ℕ → ℕ → Result Edit
+patched table s none a new roomS roomL = refuses (nowhere 41)
+patched table s (some rs) a new roomS roomL =
+    unless (not (wellFormed (length s) rs)) (nowhere 41)
+    (unless (openLine table s a new) (nowhere 40)
+    (reread s rs a new roomS roomL (readFrom table a (new ++ take 1 (behind s a)))))
+
+-- Order: 42, 43, 1, 2, 41, 40, then reading in source order, 6, 4. The rooms are the lengths of the two lent buffers.
+unfoldable pub patch : (table old bytes : List ℕ) (a : ℕ) (new : List ℕ) (roomS roomL : ℕ) → Result Edit
+patch table old bytes a new roomS roomL =
+    unless (not (beginsLine old a)) (nowhere 42)
+    (unless (among 10 new) (nowhere 43)
+    (unless (tooLong old || tooLong (edited old a new)) (nowhere 1)
+    (ascii (edited old a new)
+    (patched table old (decode bytes) a new roomS roomL))))
+
+-- The buffers afterwards, from the answer: the one for the source, the one for the listing.
+unfoldable pub patchSource : Result Edit → List ℕ → List ℕ
+patchSource r buffer = leaves (λ e. e .source) r buffer
+
+unfoldable pub patchListing : Result Edit → List ℕ → List ℕ
+patchListing r buffer = leaves (λ e. listing (e .records)) r buffer
+
+unfoldable pub openPatch : Unit {0}
+unfolding openCalls openDecode openWellFormed beginsLine above lineAt behind edited linesFrom allEnds bareLine nearest lacksContent isOpen leavesOpen openLine statementFrom recordsBelow recordsOn exchanged placedIn reread patched patch patchSource patchListing
+openPatch = tt
