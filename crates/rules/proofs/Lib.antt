@@ -4,3 +4,5 @@ pub mod Mild
 pub mod Depth
 pub mod Grammar
 pub mod Append
+pub mod Lexemes
+pub mod Rows
