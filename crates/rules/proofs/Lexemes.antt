@@ -1,11 +1,11 @@
 -- The tokens of bytes that stand before others are the tokens of those bytes alone, wherever no token reaches across: before a line feed,
 -- before the end, and behind whole lines. Tokens of bytes that stand elsewhere are the same tokens, moved.
-use mathlib.Core.Path.{_≡_, refl, sym, ap, ap₂, _∙_}
+use mathlib.Core.Path.{_≡_, refl, sym, ap, _∙_}
 use mathlib.Core.Bool.{Bool, true, false}
 use mathlib.Core.List.{List, [], _∷_, _++_, map, map-append, append-nil, append-assoc}
 use Prim.Native.Nat.{ℕ, zero, suc, pred, _+_, _-_, _≤_}
 use native.Mathlib.Omega.{arith}
-use lib.ListN.{length, take, drop}
+use lib.ListN.{length, drop}
 use lib.Seq.{take-append-le}
 use Rattle.lexer.specs.Text.{if_then_else_}
 use Rattle.lexer.specs.Tokens.{tokenAt, sizeOf}
@@ -13,10 +13,10 @@ use Rattle.lexer.specs.declared.LiteralKind.the-variants.{Number, Text}
 use Rattle.lexer.specs.declared.Token.the-variants.{Whitespace, Identifier, Literal, Punctuation, Comment, NewLine, EndOfFile, Invalid}
 use Rattle.lexer.specs.declared.TokenRead.{TokenRead}
 use Rattle.lexer.specs.declared.TokenRead.the-variants.{Read, Refused}
-use Rattle.lexer.proofs.Branches.{branch, either}
+use Rattle.lexer.proofs.Branches.{either}
 use Rattle.lexer.proofs.TokensLine.{Lines, lines-tail, tokenAt-line, tokenAt-local}
 use Rattle.lexer.proofs.TokensText.{tokenAt-le, tokenAt-fits}
-use Rattle.rules.specs.Lexemes.{Kind, word, quoted, newline, kindOf, Lexeme, isGap, lexeme, put, tokensFrom, openLexemes}
+use Rattle.rules.specs.Lexemes.{word, quoted, newline, kindOf, Lexeme, isGap, lexeme, put, tokensFrom, openLexemes}
 use Rattle.rules.specs.Reader.{isLineEnd}
 use Rattle.rules.proofs.Move.{moveToken}
 

@@ -6,3 +6,6 @@ pub mod Grammar
 pub mod Append
 pub mod Lexemes
 pub mod Rows
+pub mod Decoded
+pub mod Reencode
+pub mod PatchBytes
