@@ -4,3 +4,6 @@ pub mod Mild
 pub mod Depth
 pub mod Grammar
 pub mod Append
+pub mod Progress
+pub mod Shape
+pub mod ShapeState
