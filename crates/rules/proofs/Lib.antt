@@ -7,3 +7,4 @@ pub mod Append
 pub mod Progress
 pub mod Shape
 pub mod ShapeState
+pub mod Table

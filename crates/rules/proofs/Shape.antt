@@ -21,11 +21,7 @@ use Rattle.rules.specs.Operands.{immediateOrFar, alone, isIndex, isBase,
 use Rattle.rules.specs.Statements.{label, literalOf, literals}
 use Rattle.rules.specs.WellFormed.{Stack, stack, allow, toExpression, toOperand, toLine, complete, spans, given, checked, checkedAll}
 use Rattle.rules.specs.Patch.{statementFrom}
-
--- What the laws ask of a table: the numbers are those of operations, and a spelling has two letters or more.
-pub record Proper (table : List ℕ) : Type 0 where
-  pub small : (w : List ℕ) (r : ℕ) → operationNamed table w ≡ some r → r < 99
-  pub long : (w : List ℕ) (r : ℕ) → operationNamed table w ≡ some r → 2 ≤ length w
+use Rattle.rules.proofs.Table.{Proper}
 
 -- What a record holds besides what the check tests.
 abbrev pub Extra : Record → Type 0

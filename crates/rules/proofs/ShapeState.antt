@@ -20,7 +20,8 @@ use Rattle.rules.specs.Statements.{Row, State, over, inLine, firstOf, en
 use Rattle.rules.proofs.Append.{after-nil}
 use Rattle.rules.specs.WellFormed.{Stack, stack, allow, toLine, complete, spans, given, checked, checkedAll}
 use Rattle.rules.specs.Patch.{statementFrom}
-use Rattle.rules.proofs.Shape.{Extra, Sound, Chain, chain-le, chain-low, Run, nil, cons, run-append, Post, holds, fails, Triple, after-post, thence-post, bind, andThen, whether, perhaps, returns, refuses, before, behind, known, derive, arrive-post, taken, On, Facts, facts, on-less, on-soon, nexts, span-true, Context, open′, shut, up, to-line, first-context, place-open, expression-on, operands-on, Counted, Data, literals-on, label-on, Proper, operation-small}
+use Rattle.rules.proofs.Table.{Proper}
+use Rattle.rules.proofs.Shape.{Extra, Sound, Chain, chain-le, chain-low, Run, nil, cons, run-append, Post, holds, fails, Triple, after-post, thence-post, bind, andThen, whether, perhaps, returns, refuses, before, behind, known, derive, arrive-post, taken, On, Facts, facts, on-less, on-soon, nexts, span-true, Context, open′, shut, up, to-line, first-context, place-open, expression-on, operands-on, Counted, Data, literals-on, label-on, operation-small}
 
 abbrev pub flat : List Row → List Lexeme
 flat [] = []
