@@ -8,3 +8,6 @@ pub mod Progress
 pub mod Shape
 pub mod ShapeState
 pub mod Table
+pub mod Records
+pub mod Cost
+pub mod CostState
