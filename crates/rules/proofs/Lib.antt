@@ -11,3 +11,4 @@ pub mod Table
 pub mod Records
 pub mod Cost
 pub mod CostState
+pub mod KnownPatch
