@@ -16,7 +16,7 @@ use Rattle.rules.specs.Records.{Record, ST}
 use Rattle.rules.specs.Reader.{Refusal, at, Answer, done, refused, Reader, Line, after, thence, _>>=_, _>>_, return, write, refusedAs, arrive, step, next, ahead, refuseHere, isLineEnd}
 use Rattle.rules.specs.Operands.{isWord}
 use Rattle.rules.specs.Statements.{Row, State, over, inLine, firstOf, enter, skipLines, passing, label, instruction, constant, dataOf, line, content, times, begun, statement, statements}
-use Rattle.rules.proofs.Move.{Stays, same, Moves, andThen, after-stays, thence-stays, next-shifts, expression-shifts}
+use Rattle.rules.proofs.Move.{Mild, Any, Stays, arrive-stays, bad-mild, same, Moves, andThen, after-stays, thence-stays, next-shifts, expression-shifts}
 use Rattle.rules.proofs.MoveState.{ShiftsState, skipLines-shifts, inLines, label-shifts, instruction-shifts, constant-shifts, dataOf-shifts, content-shifts, times-shifts}
 use Rattle.rules.proofs.Append.{Reads, stop, fail, go}
 
@@ -41,22 +41,14 @@ pub record Below (n : ℕ) (s : State) : Type 0 where
   pub ended : Ended (s .line .here) (s .line .more)
   pub others : AllEnded (s .below)
 
-arrive-stays : {S A : Type 0} (P : S → Type 0) (x : Lexeme) (p : Answer S A) → Stays P p → Stays P (arrive x p)
-unfolding arrive
-arrive-stays P x p h = go′ (refusedAs (x .kind))
-  where
-    go′ : (o : Option ℕ) → Stays P (maybe o p (λ n. refused (at n (x .from) (x .to))))
-    go′ none = h
-    go′ (some n) = tt
-
 module _ (n : ℕ) where
-  closed : (l : Line) (rs : List Row) → Below n (record { line = l; below = rs }) → Stays (λ t. Below n (record { line = t; below = rs })) (next l)
+  closed : (l : Line) (rs : List Row) → Below n (record { line = l; below = rs }) → Stays (λ t. Below n (record { line = t; below = rs })) Mild (next l)
   unfolding next step size isLineEnd
   closed l rs h = stepped (l .more) (h .few) (h .ended)
     where
-      stepped : (ys : List Lexeme) → length ys + total rs ≤ n → Ended (l .here) ys → Stays (λ t. Below n (record { line = t; below = rs })) (step ys (record { last = l .last; here = l .here; more = ys }))
+      stepped : (ys : List Lexeme) → length ys + total rs ≤ n → Ended (l .here) ys → Stays (λ t. Below n (record { line = t; below = rs })) Mild (step ys (record { last = l .last; here = l .here; more = ys }))
       stepped [] i j = record { few = i; ended = refl; others = h .others }
-      stepped (y ∷ ys) i j = arrive-stays (λ (t : Line). Below n (record { line = t; below = rs })) y _ (record { few = omega arith; ended = j; others = h .others })
+      stepped (y ∷ ys) i j = arrive-stays (λ (t : Line). Below n (record { line = t; below = rs })) Mild y _ (λ m e. bad-mild (y .kind) m e) (record { few = omega arith; ended = j; others = h .others })
 
   closed-row : (l : Line) (r : Row) (rs : List Row) → Below n (record { line = l; below = r ∷ rs }) → Below n (enter r rs)
   unfolding firstOf enter size
@@ -70,7 +62,7 @@ Lower zero s = ⊥
 Lower (suc n) s = Below n s
 
 next-falls : (n l : ℕ) (x : Lexeme) (ys : List Lexeme) (rs : List Row) → Below n (record { line = record { last = l; here = x; more = ys }; below = rs }) → isLineEnd (x .kind) ≡ false
-    → Stays (Lower n) (inLine next (record { line = record { last = l; here = x; more = ys }; below = rs }))
+    → Stays (Lower n) Any (inLine next (record { line = record { last = l; here = x; more = ys }; below = rs }))
 unfolding inLine over next step arrive size
 next-falls n l x [] rs h i = absurd (true≢false (sym (h .ended) ∙ i))
 next-falls zero l x (y ∷ ys) rs h i = absurd (never (h .few))
@@ -79,18 +71,18 @@ next-falls zero l x (y ∷ ys) rs h i = absurd (never (h .few))
     never k = omega arith
 next-falls (suc n) l x (y ∷ ys) rs h i = arrived (refusedAs (y .kind))
   where
-    arrived : (o : Option ℕ) → Stays (Below n) (over {A = Unit {0}} rs (maybe o (done [] tt (record { last = x .to; here = y; more = ys })) (λ k. refused (at k (y .from) (y .to)))))
+    arrived : (o : Option ℕ) → Stays (Below n) Any (over {A = Unit {0}} rs (maybe o (done [] tt (record { last = x .to; here = y; more = ys })) (λ k. refused (at k (y .from) (y .to)))))
     arrived none =
       let k : suc (length ys) + total rs ≤ suc n = h .few in
       record { few = omega arith; ended = h .ended; others = h .others }
     arrived (some k) = tt
 
-passing-falls : (n : ℕ) (s : State) → Below n s → isLineEnd (s .line .here .kind) ≡ false → (m : Reader State (Unit {0})) → ((k : ℕ) (t : State) → Below k t → Stays (Below k) (m t))
-    → Stays (Lower n) (passing m s)
+passing-falls : (n : ℕ) (s : State) → Below n s → isLineEnd (s .line .here .kind) ≡ false → (m : Reader State (Unit {0})) → ((k : ℕ) (t : State) → Below k t → Stays (Below k) Any (m t))
+    → Stays (Lower n) Any (passing m s)
 unfolding passing _>>_ _>>=_
-passing-falls n s h i m g = thence-stays (Lower n) (λ _. m) (λ _ t j. lowered n t j) (inLine next s) (next-falls n (s .line .last) (s .line .here) (s .line .more) (s .below) h i)
+passing-falls n s h i m g = thence-stays (Lower n) Any (λ _. m) (λ _ t j. lowered n t j) (inLine next s) (next-falls n (s .line .last) (s .line .here) (s .line .more) (s .below) h i)
   where
-    lowered : (k : ℕ) (t : State) → Lower k t → Stays (Lower k) (m t)
+    lowered : (k : ℕ) (t : State) → Lower k t → Stays (Lower k) Any (m t)
     lowered zero t j = absurd j
     lowered (suc k) t j = g k t j
 
@@ -136,10 +128,10 @@ abbrev here′ : State → Kind
 here′ s = s .line .here .kind
 
 module _ (table : List ℕ) where
-  times-falls : (k n : ℕ) (s : State) → Below n s → isLineEnd (here′ s) ≡ false → Stays (Lower n) (times table k s)
+  times-falls : (k n : ℕ) (s : State) → Below n s → isLineEnd (here′ s) ≡ false → Stays (Lower n) Any (times table k s)
   unfolding times inLine over refuseHere ahead _>>=_ thence
   times-falls zero n s h i = tt
-  times-falls (suc k) n s h i = after-stays (Lower n) [] _ (passing-falls n s h i _ (λ q t j.
+  times-falls (suc k) n s h i = after-stays (Lower n) Any [] _ (passing-falls n s h i _ (λ q t j.
       andThen (inLines same (Below q) (closed q) (closed-row q) (expression-shifts same)) (andThen (skipLines-shifts same (Below q) (closed q) (closed-row q))
         (content-shifts same (Below q) (closed q) (closed-row q) table (s .line .here) (times-shifts same (Below q) (closed q) (closed-row q) table k))) .keeps t j))
 
@@ -147,22 +139,22 @@ module _ (table : List ℕ) where
     x : Lexeme
     x = s .line .here
 
-    line-falls : Stays (Lower n) (line table (times table k) s)
+    line-falls : Stays (Lower n) Any (line table (times table k) s)
     unfolding line inLine over ahead refuseHere _>>=_ thence
-    line-falls = after-stays (Lower n) [] _ (by-operation (operationIn table (here′ s)) refl)
+    line-falls = after-stays (Lower n) Any [] _ (by-operation (operationIn table (here′ s)) refl)
       where
-        by-word : (b : Bool) → isWord (here′ s) ≡ b → Stays (Lower n) (if_then_else_ {A = Reader State (Unit {0})} b (passing (inLine (label (s .line .here)))) (inLine (refuseHere 20)) s)
+        by-word : (b : Bool) → isWord (here′ s) ≡ b → Stays (Lower n) Any (if_then_else_ {A = Reader State (Unit {0})} b (passing (inLine (label (s .line .here)))) (inLine (refuseHere 20)) s)
         by-word true e = passing-falls n s h (word-inside (here′ s) e) _ (λ q t j. inLines same (Below q) (closed q) (closed-row q) (λ Q c. label-shifts same Q c (s .line .here)) .keeps t j)
         by-word false e = tt
-        by-number : isLineEnd (here′ s) ≡ false → (d : ℕ) (b b′ : Bool) → Stays (Lower n) (if_then_else_ {A = Reader State (Unit {0})} b (passing (constant (s .line .here))) (if b′ then (passing (dataOf (s .line .here) d)) else (times table k)) s)
+        by-number : isLineEnd (here′ s) ≡ false → (d : ℕ) (b b′ : Bool) → Stays (Lower n) Any (if_then_else_ {A = Reader State (Unit {0})} b (passing (constant (s .line .here))) (if b′ then (passing (dataOf (s .line .here) d)) else (times table k)) s)
         by-number i d true b′ = passing-falls n s h i _ (λ q t j. constant-shifts same (Below q) (closed q) (closed-row q) (s .line .here) .keeps t j)
         by-number i d false true = passing-falls n s h i _ (λ q t j. dataOf-shifts same (Below q) (closed q) (closed-row q) (s .line .here) d .keeps t j)
         by-number i d false false = times-falls k n s h i
-        by-directive : (o : Option ℕ) → nameIn directives (here′ s) ≡ o → Stays (Lower n) (maybe {B = Reader State (Unit {0})} o (if isWord (here′ s) then (passing (inLine (label (s .line .here)))) else (inLine (refuseHere 20)))
+        by-directive : (o : Option ℕ) → nameIn directives (here′ s) ≡ o → Stays (Lower n) Any (maybe {B = Reader State (Unit {0})} o (if isWord (here′ s) then (passing (inLine (label (s .line .here)))) else (inLine (refuseHere 20)))
             (λ d. if eqb d 0 then (passing (constant (s .line .here))) else if ltb d 3 then (passing (dataOf (s .line .here) d)) else (times table k)) s)
         by-directive none e = by-word (isWord (here′ s)) refl
         by-directive (some d) e = by-number (name-inside directives (here′ s) d e) d (eqb d 0) (ltb d 3)
-        by-operation : (o : Option ℕ) → operationIn table (here′ s) ≡ o → Stays (Lower n) (maybe {B = Reader State (Unit {0})} o (maybe (nameIn directives (here′ s)) (if isWord (here′ s) then (passing (inLine (label (s .line .here)))) else (inLine (refuseHere 20)))
+        by-operation : (o : Option ℕ) → operationIn table (here′ s) ≡ o → Stays (Lower n) Any (maybe {B = Reader State (Unit {0})} o (maybe (nameIn directives (here′ s)) (if isWord (here′ s) then (passing (inLine (label (s .line .here)))) else (inLine (refuseHere 20)))
             (λ d. if eqb d 0 then (passing (constant (s .line .here))) else if ltb d 3 then (passing (dataOf (s .line .here) d)) else (times table k))) (λ op. passing (instruction (s .line .here) op)) s)
         by-operation none e = by-directive (nameIn directives (here′ s)) refl
         by-operation (some op) e = passing-falls n s h (operation-inside table (here′ s) op e) _ (λ q t j. instruction-shifts same (Below q) (closed q) (closed-row q) (s .line .here) op .keeps t j)
@@ -179,7 +171,7 @@ module _ (table : List ℕ) where
   after-left n w (done v false t) h = tt
   after-left n w (refused r) h = tt
 
-  true-left : (n : ℕ) (p : Answer State (Unit {0})) → Stays (Lower n) p → Left n (thence p (λ _. return true))
+  true-left : (n : ℕ) (p : Answer State (Unit {0})) → Stays (Lower n) Any p → Left n (thence p (λ _. return true))
   unfolding thence return after
   true-left n (done w a t) h = h
   true-left n (refused r) h = tt
@@ -190,9 +182,9 @@ module _ (table : List ℕ) where
     where
       by-end : (b : Bool) → Left n (if_then_else_ {A = Reader State Bool} b (return false) (write (ST (s .line .here .from)) >> line table (times table 16) >> return true) s)
       by-end true = tt
-      by-end false = true-left n (after (ST (s .line .here .from) ∷ []) (line table (times table 16) s)) (after-stays (Lower n) (ST (s .line .here .from) ∷ []) (line table (times table 16) s) (line-falls 16 n s h))
+      by-end false = true-left n (after (ST (s .line .here .from) ∷ []) (line table (times table 16) s)) (after-stays (Lower n) Any (ST (s .line .here .from) ∷ []) (line table (times table 16) s) (line-falls 16 n s h))
 
-  skipped-left : (n : ℕ) (p : Answer State (Unit {0})) → Stays (Below n) p → Left n (thence p (λ _. begun table))
+  skipped-left : (n : ℕ) (p : Answer State (Unit {0})) → Stays (Below n) Any p → Left n (thence p (λ _. begun table))
   unfolding thence
   skipped-left n (done w a t) h = after-left n w (begun table t) (begun-left n t h)
   skipped-left n (refused r) h = tt
