@@ -84,6 +84,10 @@ unfolding closing thence after
 closing-plain (done w a s) = rw (append-nil w)
 closing-plain (refused r) = refl
 
+-- What a second reading comes to at further rows, past empty lines.
+unfoldable pub coming : Row → List Row → Answer State (Unit {0})
+coming b bs = arrive (b .first) (skipLines (enter b bs))
+
 abbrev pub Late : Bool → Type 0
 Late true = Unit {0}
 Late false = ⊥
@@ -129,10 +133,6 @@ module _ (table : List ℕ) where
   content-lacks m x u e = rw (e .over′)
 
   module _ (b : Row) (bs : List Row) where
-    -- the second reading at the further rows, past empty lines
-    unfoldable pub coming : Answer State (Unit {0})
-    coming = arrive (b .first) (skipLines (enter b bs))
-
     -- a reading that takes the content of a `times` from the further rows
     pub record Pending {A : Type 0} (q : Answer State A) : Type 0 where
       pub n : ℕ
@@ -141,7 +141,7 @@ module _ (table : List ℕ) where
       pub z : List Record
       pub a : A
       pub few : n ≤ 16
-      pub form : q ≡ closing w z a (thence coming (λ _. content table (times table n) x))
+      pub form : q ≡ closing w z a (thence (coming b bs) (λ _. content table (times table n) x))
 
     -- Two answers agree: the same records and value, in states that R relates; the same refusal. Late ones may also lack a content, or end before a bad token.
     pub data Agree (c : Bool) (R : State → State → Type 0) {A : Type 0} : Answer State A → Answer State A → Type 0 where

@@ -13,4 +13,5 @@ pub mod Shape
 pub mod ShapeState
 pub mod Cost
 pub mod CostState
+pub mod Cut
 pub mod KnownPatch
