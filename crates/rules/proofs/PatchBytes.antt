@@ -1,17 +1,14 @@
--- What a patch that works on bytes needs: the parts of the old listing, moved records, and the new line's tokens.
+-- What a patch that works on bytes keeps and moves: the statements below a place and from it on are all, so their bytes are the first and
+-- the last of the old listing; a moved record is as long.
 use mathlib.Core.Path.{_≡_, refl, sym, ap, ap₂, _∙_}
 use mathlib.Core.Bool.{Bool, true, false}
-use mathlib.Core.List.{List, [], _∷_, _++_, map, append-assoc}
+use mathlib.Core.List.{List, [], _∷_, _++_, map}
 use Prim.Native.Nat.{ℕ, _+_}
 use lib.ListN.{length, length-append}
 use Rattle.lexer.specs.Text.{if_then_else_, bytes}
 use Rattle.rules.specs.Records.{Record, ST, VC, VL, VI, VS, PF, IN, OR, OS, OI, OF, OD, OX, LL, LI, LD, LC, LT, field, fields, encode, listing, moveRecord}
 use Rattle.rules.specs.Patch.{statementFrom, recordsBelow, recordsOn}
-
-pub listing-append : (w v : List Record) → listing (w ++ v) ≡ listing w ++ listing v
-unfolding listing
-listing-append [] v = refl
-listing-append (r ∷ rs) v = ap (λ (l : List ℕ). encode r ++ l) (listing-append rs v) ∙ sym (append-assoc (encode r) (listing rs) (listing v))
+use Rattle.rules.proofs.Records.{listing-append}
 
 -- the statements below a place and from it on are all
 pub below-on : (a : ℕ) (rs : List Record) → recordsBelow a rs ++ recordsOn a rs ≡ rs
