@@ -14,4 +14,5 @@ pub mod ShapeState
 pub mod Cost
 pub mod CostState
 pub mod Cut
+pub mod Exchange
 pub mod KnownPatch
