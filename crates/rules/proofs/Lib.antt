@@ -17,4 +17,5 @@ pub mod ShapeState
 pub mod Cost
 pub mod CostState
 pub mod Cut
+pub mod Exchange
 pub mod KnownPatch
