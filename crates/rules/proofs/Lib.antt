@@ -14,6 +14,7 @@ pub mod Progress
 pub mod Grammar
 pub mod Shape
 pub mod ShapeState
+pub mod LexSound
 pub mod Cost
 pub mod CostState
 pub mod Cut
