@@ -92,7 +92,7 @@ chain-feed p s m =
     let e : p + length (s ++ (10 ∷ [])) ≡ n + 1 = omega (arith, length-append s (10 ∷ [])) in
     let ends : List Lexeme = stop n (n + 1) ∷ stop (n + 1) (n + 1) ∷ [] in
     let l : Chain (n + 1) n n ends =
-      (le-refl n, line-end-sound n n (n + 1) (omega arith), (le-refl (n + 1), line-end-sound n (n + 1) (n + 1) (le-refl (n + 1)), le-refl (n + 1))) in
+    (le-refl n, line-end-sound n n (n + 1) (omega arith), (le-refl (n + 1), line-end-sound n (n + 1) (n + 1) (le-refl (n + 1)), le-refl (n + 1))) in
     rw (e, tokens-fed p 0 s zero-le) (rw q at (chain-within (n + 1) n p 0 s ends m zero-le (le-refl n) l))
 
 -- The rows hold all tokens, in order.

@@ -15,6 +15,7 @@ pub mod Grammar
 pub mod Shape
 pub mod ShapeState
 pub mod LexSound
+pub mod Ranged
 pub mod Cost
 pub mod CostState
 pub mod Cut
