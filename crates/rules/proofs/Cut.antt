@@ -14,7 +14,7 @@ use Rattle.lexer.specs.declared.TokenRead.{TokenRead}
 use Rattle.rules.specs.Lexemes.{Kind, newline, Lexeme, isGap, kindOf, put, lexeme, tokensFrom}
 use Rattle.rules.specs.Records.{Record, ST, LT, moveRecord}
 use Rattle.rules.specs.Reader.{Refusal, at, nowhere, encoding, Answer, done, refused, Reader, Line, after, thence, _>>=_, _>>_, return, write, refusedAs, arrive, ahead, kind, isLineEnd}
-use Rattle.rules.specs.Statements.{Row, State, over, inLine, firstOf, enter, rows, push, skip, skipLines, line, content, times, begun, statement, statements, readRows}
+use Rattle.rules.specs.Statements.{Row, State, over, inLine, firstOf, enter, rows, push, skip, skipLines, line, content, times, begun, statement, statements, readRows, Outcome, accepted, refusal, outcome, readFrom}
 use Rattle.rules.proofs.Move.{same, carry, after-carry, Mild, bad-mild, moveToken, moveRefusal, moveLine}
 use Rattle.rules.proofs.MoveState.{moveRow, moveState, statement-shifts, unit-state, unit-row}
 use Rattle.lexer.proofs.TokensLine.{Lines}
@@ -287,6 +287,16 @@ blank-split p (c ∷ cs) B l =
     let u : List Row = rows (tokensWithin p 0 (c ∷ cs)) in
     ap blankRows (rows-before p c cs l B) ∙ blank-append u (rowsFrom n B)
       ∙ ap (λ (b : Bool). b && blankRows (rowsFrom n B)) (sym (ap blankRows (rows-alone p c cs l) ∙ blank-append u (endRow n ∷ []) ∙ ap (λ (b : Bool). blankRows u && b) (blank-last n) ∙ and-true (blankRows u)))
+run-accepted : (a : Answer State (Unit {0})) (w : List Record) → outcome a ≡ accepted w → (u : State) × (a ≡ done w tt u)
+unfolding outcome
+run-accepted (done v x u) w e = let z : v ≡ w = cc in (u, ap (λ (l : List Record). done l tt u) z)
+run-accepted (refused r) w e = let z : _≡_ {A = ℕ} 0 1 = cc in absurd (omega arith)
+
+run-refused : (a : Answer State (Unit {0})) (r : Refusal) → outcome a ≡ refusal r → a ≡ refused r
+unfolding outcome
+run-refused (done v x u) r e = let z : _≡_ {A = ℕ} 0 1 = cc in absurd (omega arith)
+run-refused (refused q) r e = cc
+
 module _ (table : List ℕ) where
   -- what comes of equal answers
   refused-open : {r : Refusal} {q : Answer State (Unit {0})} → Continues table (refused r) q → IsOpen q → Lack r
@@ -467,3 +477,18 @@ module _ (table : List ℕ) where
       let m : statement table (enter r rs) ≡ done [] false u = statement-is (enter r rs) ∙ ap (λ (p : Answer State (Unit {0})). thence p (λ _. begun table)) j ∙ ap (after []) (begun-ends table u n) in
       (u, begins-only (rw e at g) (fine (end-fine (r .first .kind) k) (Reads.stop m)))
 
+
+  -- readFrom is the run's outcome
+  pub from-run : (p : ℕ) (s : List ℕ) {a : Answer State (Unit {0})} → Gives p s a → readFrom table p s ≡ outcome a
+  unfolding readFrom rowsFrom
+  from-run p s g = ap outcome (begins-only (gives p s) g)
+
+  pub accepts-run : (p : ℕ) (s : List ℕ) (w : List Record) → readFrom table p s ≡ accepted w → (u : State) × Gives p s (done w tt u)
+  unfolding readFrom rowsFrom
+  accepts-run p s w e =
+      let (u, i) = run-accepted (readRows table (suc (length s)) (rows (tokensFrom p 0 s))) w e in
+      (u, rw i at (gives p s))
+
+  pub refuses-run : (p : ℕ) (s : List ℕ) (r : Refusal) → readFrom table p s ≡ refusal r → Gives p s (refused r)
+  unfolding readFrom rowsFrom
+  refuses-run p s r e = rw (run-refused (readRows table (suc (length s)) (rows (tokensFrom p 0 s))) r e) at (gives p s)

@@ -20,4 +20,6 @@ pub mod Cost
 pub mod CostState
 pub mod Cut
 pub mod Exchange
+pub mod Listing
+pub mod Demand3
 pub mod KnownPatch
