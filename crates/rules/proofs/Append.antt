@@ -442,18 +442,18 @@ module _ (table : List ℕ) where
     plainly {w} {u} {q} h g = rw (h, ← after-nil q) (on g)
 
     stop-case : {pa qa : Answer State Bool} {w : List Record} {u : State} {q : Answer State (Unit {0})} → Next pa qa → pa ≡ done w false u → Continues qa q → Follows (done w tt u) q
-    stop-case (went h) z c = let y : true ≡ false = cc in absurd (true≢false y)
-    stop-case (Next.stopped m) z c = let y : _≡_ {A = ℕ} 0 1 = cc in absurd (zero-one y)
-    stop-case (lacks p) z c = let y : _≡_ {A = ℕ} 0 1 = cc in absurd (zero-one y)
-    stop-case (halts e h) z c = let y : true ≡ false = cc in absurd (true≢false y)
+    stop-case (went h) z c = absurd (true≢false cc)
+    stop-case (Next.stopped m) z c = absurd (true≢false cc)
+    stop-case (lacks p) z c = absurd (true≢false cc)
+    stop-case (halts e h) z c = absurd (true≢false cc)
     stop-case {w = w} (none-left u e) z c = let y : w ≡ [] = cc in plainly y (begins c)
 
     fail-case : {pa qa : Answer State Bool} {r : Refusal} {q : Answer State (Unit {0})} → Next pa qa → pa ≡ refused r → Continues qa q → Follows (refused r) q
-    fail-case (went h) z c = let y : _≡_ {A = ℕ} 0 1 = cc in absurd (zero-one y)
+    fail-case (went h) z c = absurd (true≢false cc)
     fail-case {r = r} (Next.stopped {r = r′} m) z Continues.fail = let y : r ≡ r′ = cc in rw y (same m)
     fail-case {r = r} {q} (lacks {f} {t} p) z c = let y : r ≡ at 34 f t = cc in rw (y, ← after-nil q) (late [] p c)
-    fail-case (halts e h) z c = let y : _≡_ {A = ℕ} 0 1 = cc in absurd (zero-one y)
-    fail-case (none-left u e) z c = let y : _≡_ {A = ℕ} 0 1 = cc in absurd (zero-one y)
+    fail-case (halts e h) z c = absurd (true≢false cc)
+    fail-case (none-left u e) z c = absurd (true≢false cc)
 
     -- a run at the end
     ends : {u : State} {p : Answer State (Unit {0})} → Ending u → Reads u p → p ≡ done [] tt u
@@ -469,13 +469,13 @@ module _ (table : List ℕ) where
         let y : s ≡ u = cc in
         let y′ : w′ ≡ w = cc in
         rw y′ (follows-after w (i _ _ (rw y at h) g))
-    go-case (Next.stopped m) z r i c = let y : _≡_ {A = ℕ} 0 1 = cc in absurd (zero-one y)
-    go-case (lacks p) z r i c = let y : _≡_ {A = ℕ} 0 1 = cc in absurd (zero-one y)
+    go-case (Next.stopped m) z r i c = absurd (true≢false cc)
+    go-case (lacks p) z r i c = absurd (true≢false cc)
     go-case {w = w} {u} {p} (halts {u = u′} e h) z r i Continues.fail =
         let y : u′ ≡ u = cc in
         let y′ : p ≡ done [] tt u = ends (rw y at e) r in
         rw y′ (follows-after w (on {w = []} {u = u} (broken h)))
-    go-case (none-left u′ e) z r i c = let y : true ≡ false = cc in absurd (true≢false y)
+    go-case (none-left u′ e) z r i c = absurd (true≢false cc)
 
     -- THE APPEND LAW of runs.
     pub lockstep : {s t : State} {p q : Answer State (Unit {0})} → Reads s p → Open es b bs s t → Reads t q → Follows p q

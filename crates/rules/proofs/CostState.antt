@@ -38,7 +38,7 @@ allLong (name ∷ names) = leb 2 (length (bytes name)) && allLong names
 
 place-long : (m : ℕ) (w : List ℕ) (t : List String) (r : ℕ) → allLong t ≡ true → placeFrom m w t ≡ some r → 2 ≤ length w
 unfolding placeFrom allLong
-place-long m w [] r l h = let z : _≡_ {A = ℕ} 0 1 = cc in absurd (omega arith)
+place-long m w [] r l h = absurd (true≢false cc)
 place-long m w (name ∷ t) r l h =
     let (a, b) = and-split (leb 2 (length (bytes name))) (allLong t) l in
     go a (same w (bytes name)) refl h (λ e. place-long (suc m) w t r b e)
@@ -60,15 +60,15 @@ directive-long w r h = omega (arith, place-long 0 (map lower w) directives r lon
 text-long : (k : Kind) (w : List ℕ) (f u : ℕ) → textOf k ≡ some w → Holds k f u → length w + f ≤ u
 unfolding textOf
 text-long (word v) w f u h o = let z : v ≡ w = cc in rw (← z) o
-text-long (number v) w f u h o = let z : _≡_ {A = ℕ} 0 1 = cc in absurd (omega arith)
-text-long (quoted b v) w f u h o = let z : _≡_ {A = ℕ} 0 1 = cc in absurd (omega arith)
-text-long (mark c) w f u h o = let z : _≡_ {A = ℕ} 0 1 = cc in absurd (omega arith)
-text-long newline w f u h o = let z : _≡_ {A = ℕ} 0 1 = cc in absurd (omega arith)
-text-long blank w f u h o = let z : _≡_ {A = ℕ} 0 1 = cc in absurd (omega arith)
-text-long comment w f u h o = let z : _≡_ {A = ℕ} 0 1 = cc in absurd (omega arith)
-text-long invalid w f u h o = let z : _≡_ {A = ℕ} 0 1 = cc in absurd (omega arith)
-text-long end w f u h o = let z : _≡_ {A = ℕ} 0 1 = cc in absurd (omega arith)
-text-long (bad b) w f u h o = let z : _≡_ {A = ℕ} 0 1 = cc in absurd (omega arith)
+text-long (number v) w f u h o = absurd (true≢false cc)
+text-long (quoted b v) w f u h o = absurd (true≢false cc)
+text-long (mark c) w f u h o = absurd (true≢false cc)
+text-long newline w f u h o = absurd (true≢false cc)
+text-long blank w f u h o = absurd (true≢false cc)
+text-long comment w f u h o = absurd (true≢false cc)
+text-long invalid w f u h o = absurd (true≢false cc)
+text-long end w f u h o = absurd (true≢false cc)
+text-long (bad b) w f u h o = absurd (true≢false cc)
 
 asked-long : (k : Kind) (ask : List ℕ → Option ℕ) (r f u : ℕ) → ((w : List ℕ) (r : ℕ) → ask w ≡ some r → 2 ≤ length w) → maybe (textOf k) none ask ≡ some r → Holds k f u → 2 + f ≤ u
 asked-long k ask r f u l h o =

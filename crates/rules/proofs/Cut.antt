@@ -72,7 +72,7 @@ module _ where
     where
       go : (o : Option ℕ) → maybe o p (λ n. refused (at n (x .from) (x .to))) ≡ done w tt t → p ≡ done w tt t
       go none e = e
-      go (some n) e = let y : _≡_ {A = ℕ} 0 1 = cc in absurd (omega arith)
+      go (some n) e = absurd (true≢false cc)
 
   skip-blank : (l : Line) (rs : List Row) {w : List Record} {t : State} → skip l rs ≡ done w tt t → isLineEnd (t .line .here .kind) ≡ true → isLineEnd (l .here .kind) && blankRows rs ≡ true
   unfolding skip blankRows firstOf
@@ -129,7 +129,7 @@ rows-total (x ∷ xs) = go (isLineEnd (x .kind)) (rows-total xs)
 
 push-all : (x : Lexeme) (l : List Row) → Some l → AllEnded l → AllEnded (push x l)
 unfolding push
-push-all x [] (r, rs, e) h = let y : _≡_ {A = ℕ} 0 1 = cc in absurd (omega arith)
+push-all x [] (r, rs, e) h = absurd (true≢false cc)
 push-all x (r ∷ rs) e h = h
 
 rows-all : (xs : List Lexeme) → Finished xs → AllEnded (rows xs)
@@ -287,11 +287,11 @@ blank-split p (c ∷ cs) B l =
 run-accepted : (a : Answer State (Unit {0})) (w : List Record) → outcome a ≡ accepted w → (u : State) × (a ≡ done w tt u)
 unfolding outcome
 run-accepted (done v x u) w e = let z : v ≡ w = cc in (u, ap (λ (l : List Record). done l tt u) z)
-run-accepted (refused r) w e = let z : _≡_ {A = ℕ} 0 1 = cc in absurd (omega arith)
+run-accepted (refused r) w e = absurd (true≢false cc)
 
 run-refused : (a : Answer State (Unit {0})) (r : Refusal) → outcome a ≡ refusal r → a ≡ refused r
 unfolding outcome
-run-refused (done v x u) r e = let z : _≡_ {A = ℕ} 0 1 = cc in absurd (omega arith)
+run-refused (done v x u) r e = absurd (true≢false cc)
 run-refused (refused q) r e = cc
 
 module _ (table : List ℕ) where
@@ -381,8 +381,8 @@ module _ (table : List ℕ) where
   -- A run from a row is the only one.
   pub begins-only : {l : List Row} {p q : Answer State (Unit {0})} → Begins table l p → Begins table l q → p ≡ q
   begins-only (fine f g) (fine f′ g′) = only table g g′
-  begins-only (fine f g) (broken {n = n} h) = let y : none ≡ some n = sym f ∙ h in let z : _≡_ {A = ℕ} 0 1 = cc in absurd (omega arith)
-  begins-only (broken {n = n} h) (fine f g) = let y : none ≡ some n = sym f ∙ h in let z : _≡_ {A = ℕ} 0 1 = cc in absurd (omega arith)
+  begins-only (fine f g) (broken {n = n} h) = let y : none ≡ some n = sym f ∙ h in absurd (true≢false cc)
+  begins-only (broken {n = n} h) (fine f g) = let y : none ≡ some n = sym f ∙ h in absurd (true≢false cc)
   begins-only (broken {n = n} h) (broken {n = m} i) = let y : n ≡ m = cc in rw y
 
   abbrev pub Gives : ℕ → List ℕ → Answer State (Unit {0}) → Type 0

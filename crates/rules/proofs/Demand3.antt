@@ -149,7 +149,7 @@ exchangedBy a p q w (refusal r) = refusal r
 
 unless-gives : {A : Type 0} (b : Bool) (r : Refusal) (x : Result A) (y : A) → unless b r x ≡ gives y → (b ≡ false) × (x ≡ gives y)
 unfolding unless
-unless-gives true r x y h = let z : _≡_ {A = ℕ} 0 1 = cc in absurd (omega arith)
+unless-gives true r x y h = absurd (true≢false cc)
 unless-gives false r x y h = (refl, h)
 
 -- bytes that are no more than 127
@@ -159,7 +159,7 @@ none-foreign p [] h = tt
 none-foreign p (c ∷ cs) h = go (ltb 127 c) refl h (λ e. none-foreign (suc p) cs e)
   where
     go : (b : Bool) → ltb 127 c ≡ b → _≡_ {A = Option ℕ} (if b then (some p) else (foreign (suc p) cs)) none → (foreign (suc p) cs ≡ none → Small cs) → (c ≤ 2147483647) × Small cs
-    go true e i again = let z : _≡_ {A = ℕ} 0 1 = cc in absurd (omega arith)
+    go true e i again = absurd (true≢false cc)
     go false e i again = (omega (arith, ltb-false 127 c e), again i)
 
 ascii-gives : {A : Type 0} (s : List ℕ) (x : Result A) (y : A) → ascii s x ≡ gives y → Small s × (x ≡ gives y)
@@ -168,12 +168,12 @@ ascii-gives s x y h = go (foreign 0 s) refl h
   where
     go : (o : Option ℕ) → foreign 0 s ≡ o → maybe o x (λ p. refuses (at 2 p (suc p))) ≡ gives y → Small s × (x ≡ gives y)
     go none e′ e = (none-foreign 0 s e′, e)
-    go (some p) e′ e = let z : _≡_ {A = ℕ} 0 1 = cc in absurd (omega arith)
+    go (some p) e′ e = absurd (true≢false cc)
 
 listed-gives : (room : ℕ) (o : Outcome) (w : List Record) → listed room o ≡ gives w → o ≡ accepted w
 unfolding listed inRoom
 listed-gives room (accepted v) w h = let (_, i) = unless-gives (ltb room (length (listing v))) (nowhere 4) (gives v) w h in cc
-listed-gives room (refusal r) w h = let z : _≡_ {A = ℕ} 0 1 = cc in absurd (omega arith)
+listed-gives room (refusal r) w h = absurd (true≢false cc)
 
 short-is : (s : List ℕ) → tooLong s ≡ false → length s ≤ 65536
 unfolding tooLong mostBytes

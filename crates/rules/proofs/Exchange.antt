@@ -80,8 +80,7 @@ module _ (table : List ℕ) where
       go false h = refl
       go true h =
         let (u, e) = blank-gives table (rowsFrom p (l ++ lineFeed)) (some-row p (l ++ lineFeed)) (blank-end p l ∙ bare-blank l ∙ h) g in
-        let z : _≡_ {A = ℕ} 0 1 = cc in
-        absurd (zero-one z)
+        absurd (true≢false cc)
 
   near-step : (p : ℕ) (l : List ℕ) (ls : List (List ℕ)) {x q : Answer State (Unit {0})} → Then table (p + length (l ++ lineFeed)) (whole ls) x q → Gives table p (l ++ lineFeed) x → IsOpen q
       → ((a : Answer State (Unit {0})) → Gives table (p + length (l ++ lineFeed)) (whole ls) a → IsOpen a → Near ls) → Near (l ∷ ls)
@@ -119,8 +118,8 @@ module _ (table : List ℕ) where
   take-apart : {n m : ℕ} {A B : List ℕ} {w : List Record} {u : State} {x q : Answer State (Unit {0})} → Then table m B x q → Gives table n A x → q ≡ done w tt u → (IsOpen x → ⊥) → Parts n m A B w
   unfolding after
   take-apart {w = w} {u} (goes {w = v} {u = t} {q = done v′ a t′} g) k e o = record { first = v; then′ = v′; end = t; end′ = t′; joined = cc; firstly = k; thereupon = g }
-  take-apart (goes {q = refused r} g) k e o = let z : _≡_ {A = ℕ} 0 1 = cc in absurd (zero-one z)
-  take-apart (stands {r} m) k e o = let z : _≡_ {A = ℕ} 0 1 = cc in absurd (zero-one z)
+  take-apart (goes {q = refused r} g) k e o = absurd (true≢false cc)
+  take-apart (stands {r} m) k e o = absurd (true≢false cc)
   take-apart (lacks {r} l i) k e o = absurd (o l)
 
   pub parts : (n : ℕ) (A B : List ℕ) {w : List Record} {u : State} → Lines A → Gives table n (A ++ B) (done w tt u) → ((a : Answer State (Unit {0})) → Gives table n A a → IsOpen a → ⊥) → Parts n (n + length A) A B w
@@ -135,14 +134,14 @@ module _ (table : List ℕ) where
         let z : v ≡ w = cc in
         let z′ : q′ ≡ a = begins-only table i h in
         rw (z, z′)
-      go (stands m) e = let z : _≡_ {A = ℕ} 0 1 = cc in absurd (zero-one z)
-      go (lacks m i) e = let z : _≡_ {A = ℕ} 0 1 = cc in absurd (zero-one z)
+      go (stands m) e = absurd (true≢false cc)
+      go (lacks m i) e = absurd (true≢false cc)
 
   pub refused-whole : (n : ℕ) (A B : List ℕ) {r : Refusal} {q : Answer State (Unit {0})} → Lines A → Gives table n A (refused r) → (Lack r → ⊥) → Gives table n (A ++ B) q → q ≡ refused r
   refused-whole n A B {r} {q} l g o k = go (sequel table n A B l g k) refl
     where
       go : {x y : Answer State (Unit {0})} → Then table (n + length A) B x y → x ≡ refused r → y ≡ refused r
-      go (goes i) e = let z : _≡_ {A = ℕ} 0 1 = cc in absurd (zero-one z)
+      go (goes i) e = absurd (true≢false cc)
       go (stands m) e = e
       go (lacks {r = r′} m i) e = let z : r′ ≡ r = cc in absurd (o (rw z at m))
 
@@ -186,8 +185,7 @@ module _ (table : List ℕ) where
         (moveState (λ k. m + k) u0, z ∙ ap (λ (l : List Record). done l tt (moveState (λ k. m + k) u0)) (sym (ap (map (moveRecord (λ k. k + q - p))) c ∙ moves (λ k. k + q - p) (λ k. n + k) (λ k. m + k) e w0)))
       go (refused r) i =
         let y : refused (moveRefusal (λ k. n + k) r) ≡ done w tt u = begins-only table (gives-shift table n s i) g in
-        let z : _≡_ {A = ℕ} 0 1 = cc in
-        absurd (zero-one z)
+        absurd (true≢false cc)
 
   pub gives-same : (p : ℕ) {s t : List ℕ} {a : Answer State (Unit {0})} → s ≡ t → Gives table p s a → Gives table p t a
   gives-same p e g = rw e at g

@@ -175,12 +175,12 @@ operator-small k op h = go (isMark "+" k) (isMark "-" k) (isMark "*" k) (isMark 
     go false true c d e = let z : 1 ≡ op = cc in omega arith
     go false false true d e = let z : 2 ≡ op = cc in omega arith
     go false false false true e = let z : 3 ≡ op = cc in omega arith
-    go false false false false e = let z : _≡_ {A = ℕ} 0 1 = cc in absurd (omega arith)
+    go false false false false e = absurd (true≢false cc)
 
 -- The numbers of names.
 place-small : (m : ℕ) (w : List ℕ) (t : List String) (r : ℕ) → placeFrom m w t ≡ some r → r < m + length t
 unfolding placeFrom
-place-small m w [] r h = let z : _≡_ {A = ℕ} 0 1 = cc in absurd (omega arith)
+place-small m w [] r h = absurd (true≢false cc)
 place-small m w (row ∷ t) r h = go (same w (bytes row)) h (λ e. place-small (suc m) w t r e)
   where
     go : (b : Bool) → _≡_ {A = Option ℕ} (if b then (some m) else (placeFrom (suc m) w t)) (some r) → (placeFrom (suc m) w t ≡ some r → r < suc m + length t) → r < m + suc (length t)
@@ -192,7 +192,7 @@ pub asked : (k : Kind) (ask : List ℕ → Option ℕ) (r : ℕ) → maybe (text
 asked k ask r = go (textOf k) refl
   where
     go : (o : Option (List ℕ)) → textOf k ≡ o → maybe o none ask ≡ some r → (w : List ℕ) × (textOf k ≡ some w) × (ask w ≡ some r)
-    go none e h = let z : _≡_ {A = ℕ} 0 1 = cc in absurd (omega arith)
+    go none e h = absurd (true≢false cc)
     go (some w) e h = (w, e, h)
 
 name-small : (t : List String) (k : Kind) (r : ℕ) → nameIn t k ≡ some r → r < length t

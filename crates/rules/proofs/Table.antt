@@ -1,6 +1,6 @@
 -- What the laws ask of a table of operations, and that the table of the names has it: one test, computed over its rows.
 use mathlib.Core.Path.{_≡_, refl, ap, _∙_}
-use mathlib.Core.Bool.{Bool, true, false, _&&_, false≢true}
+use mathlib.Core.Bool.{Bool, true, false, _&&_, false≢true, true≢false}
 use mathlib.Core.List.{List, [], _∷_, map}
 use mathlib.Core.Option.{Option, none, some}
 use Prim.Native.Nat.{ℕ, zero, suc, _≤_, _<_}
@@ -35,7 +35,7 @@ same-length (c ∷ s) (d ∷ t) h = go (eqb c d) h (λ e. same-length s t e)
 
 proper-from : (n : ℕ) (w table : List ℕ) (r : ℕ) → properRows n table ≡ true → operationFrom n w table ≡ some r → (r < 99) × (2 ≤ length w)
 unfolding operationFrom properRows
-proper-from zero w table r p h = let z : _≡_ {A = ℕ} 0 1 = cc in absurd (omega arith)
+proper-from zero w table r p h = absurd (true≢false cc)
 proper-from (suc n) w table r p h =
     let (a, q) = and-split (ltb (getD table 7 0) 99) _ p in
     let (b, others) = and-split (leb 2 (length (spelling table))) _ q in
