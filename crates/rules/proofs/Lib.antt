@@ -12,6 +12,7 @@ pub mod Depth
 pub mod Append
 pub mod Progress
 pub mod Grammar
+pub mod Hoare
 pub mod Shape
 pub mod ShapeState
 pub mod LexSound

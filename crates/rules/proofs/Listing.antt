@@ -19,7 +19,8 @@ use Rattle.rules.specs.WellFormed.{Stack, allow, complete, spans, given,
 use Rattle.rules.specs.Patch.{statementFrom}
 use Rattle.rules.proofs.Table.{Proper}
 use Rattle.rules.proofs.Append.{Reads, Begins, fine, broken}
-use Rattle.rules.proofs.Shape.{Extra, Small, Chain, chain-low, Run, nil, cons, On}
+use Rattle.rules.proofs.Hoare.{Run, nil, cons}
+use Rattle.rules.proofs.Shape.{Small, Chain, chain-low, Checks, On}
 use Rattle.rules.proofs.ShapeState.{flat, OnS, Ready, Stated, began, ended, failed, statement-stated}
 use Rattle.rules.proofs.LexSound.{chain-plain, chain-feed, flat-rows}
 use Rattle.rules.proofs.Cut.{rowsFrom, Gives, lineFeed, accepts-run}
@@ -86,18 +87,18 @@ chain-same n hi lo e c = rw e at c
 
 module _ (table : List ℕ) (proper : Proper table) where
   module _ (n hi : ℕ) where
-    run-checked : {k k′ : Stack} {w : List Record} (v : List Record) → Run n k w k′ → checkedAll n k (w ++ v) ≡ checkedAll n k′ v
+    run-checked : {k k′ : Stack} {w : List Record} (v : List Record) → Run (Checks n) k w k′ → checkedAll n k (w ++ v) ≡ checkedAll n k′ v
     unfolding checkedAll
     run-checked v nil = refl
-    run-checked v (cons a x e r) = rw e (run-checked v r)
+    run-checked v (cons c r) = rw (c .checks) (run-checked v r)
 
-    run-inner : {k k′ : Stack} {w : List Record} → Run n k w k′ → Inner hi w
+    run-inner : {k k′ : Stack} {w : List Record} → Run (Checks n) k w k′ → Inner hi w
     run-inner nil = tt
-    run-inner (cons {r = r} a x e g) = (from-mono 0 hi zero-le r a, run-inner g)
+    run-inner (cons {r = r} c g) = (from-mono 0 hi zero-le r (c .inner), run-inner g)
 
-    run-extras : {k k′ : Stack} {w : List Record} → Run n k w k′ → Extras w
+    run-extras : {k k′ : Stack} {w : List Record} → Run (Checks n) k w k′ → Extras w
     run-extras nil = tt
-    run-extras (cons a x e g) = (x, run-extras g)
+    run-extras (cons c g) = (c .extra, run-extras g)
 
     pub record Fits (lo : ℕ) (κ : Stack) (w : List Record) : Type 0 where
       pub top : Stack
@@ -115,12 +116,12 @@ module _ (table : List ℕ) (proper : Proper table) where
     unfolding checkedAll
     none-more lo κ y = record { top = κ; checks = refl; whole = y .done′; headed = tt; inner = tt; extras = tt }
 
-    first-fits : (lo q lo′ : ℕ) (κ κ₁ κ′ : Stack) (v w : List Record) → lo ≤ q → q < hi → checked n κ (ST q) ≡ some κ₁ → Run n κ₁ v κ′ → Fits lo′ κ′ w → Fits lo κ (ST q ∷ (v ++ w))
+    first-fits : (lo q lo′ : ℕ) (κ κ₁ κ′ : Stack) (v w : List Record) → lo ≤ q → q < hi → checked n κ (ST q) ≡ some κ₁ → Run (Checks n) κ₁ v κ′ → Fits lo′ κ′ w → Fits lo κ (ST q ∷ (v ++ w))
     unfolding checkedAll statementFrom
     first-fits lo q lo′ κ κ₁ κ′ v w i j e r f = record { top = f .top; checks = rw e (run-checked w r ∙ f .checks); whole = f .whole; headed = le-leb lo q i;
       inner = (lt-leb hi q j, inner-append hi v w (run-inner r) (f .inner)); extras = (tt, extras-append v w (run-extras r) (f .extras)) }
 
-    with-first : (lo q lo′ : ℕ) (κ κ₁ κ′ : Stack) (v : List Record) → lo ≤ q → q < hi → checked n κ (ST q) ≡ some κ₁ → Run n κ₁ v κ′ → {p : Answer State (Unit {0})} → Listed lo′ κ′ p → Listed lo κ (after (ST q ∷ v) p)
+    with-first : (lo q lo′ : ℕ) (κ κ₁ κ′ : Stack) (v : List Record) → lo ≤ q → q < hi → checked n κ (ST q) ≡ some κ₁ → Run (Checks n) κ₁ v κ′ → {p : Answer State (Unit {0})} → Listed lo′ κ′ p → Listed lo κ (after (ST q ∷ v) p)
     unfolding after
     with-first lo q lo′ κ κ₁ κ′ v i j e r (listed {w} f) = listed (first-fits lo q lo′ κ κ₁ κ′ v w i j e r f)
     with-first lo q lo′ κ κ₁ κ′ v i j e r unlisted = unlisted
