@@ -62,6 +62,9 @@ module _ {G : Type 0} {Step : G → Record → G → Type 0} where
     perhaps none p q = p
     perhaps (some b) p q = q b refl
 
+    pub now : {A : Type 0} {Q : A → G → S → Type 0} {g : G} {a : A} {s : S} → Q a g s → Post Step Q g (done [] a s)
+    now q = holds nil q
+
     pub returns : {A : Type 0} {P : G → S → Type 0} {Q : A → G → S → Type 0} (a : A) → ((g : G) (s : S) → P g s → Q a g s) → Triple Step P (return a) Q
     unfolding return
     returns a h = record { law = λ g s p. holds nil (h g s p) }
