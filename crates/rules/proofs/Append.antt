@@ -300,17 +300,17 @@ module _ (table : List ℕ) where
     instruction-open : (x : Lexeme) (op : ℕ) → Keeps b bs true (In es b bs) (Open es b bs) (instruction x op)
     unfolding instruction
     instruction-open x op = whether (eqb op rep || eqb op repne)
-        (opened (bind (inLines passed-mild) λ t. writes (LI (x .from) t op 0 t t)))
-        (bind (inLines operands-mild) λ o. bind (inLines passed-mild) λ t. thenWrites (LI (x .from) t op (o .count) (o .from) (o .to)) lineEnd-open)
+        (opened (bind (inLines passed-mild) λ t. writes _))
+        (bind (inLines operands-mild) λ o. bind (inLines passed-mild) λ t. thenWrites _ lineEnd-open)
 
     constant-open : (x : Lexeme) → Keeps b bs true (In es b bs) (Open es b bs) (constant x)
     unfolding constant
-    constant-open x = andThen (inLines expression-mild) (bind (inLines passed-mild) λ t. thenWrites (LC (x .from) t) lineEnd-open)
+    constant-open x = andThen (inLines expression-mild) (bind (inLines passed-mild) λ t. thenWrites _ lineEnd-open)
 
     someData-open : (x : Lexeme) (ds : List ℕ) → Keeps b bs true (In es b bs) (Open es b bs) (someData x ds)
     unfolding someData
-    someData-open x [] = refuses (at 23 (x .from) (x .to)) refl
-    someData-open x (d ∷ ds) = bind (inLines passed-mild) λ t. thenWrites (LD (x .from) t (d ∷ ds)) lineEnd-open
+    someData-open x [] = refuses _ refl
+    someData-open x (d ∷ ds) = bind (inLines passed-mild) λ t. thenWrites _ lineEnd-open
 
     dataOf-open : (x : Lexeme) (width : ℕ) → Keeps b bs true (In es b bs) (Open es b bs) (dataOf x width)
     unfolding dataOf
@@ -383,7 +383,7 @@ module _ (table : List ℕ) where
 
     read-next : (x : Lexeme) {s t : State} → (In es b bs) s t → Next ((write (ST (x .from)) >> line table (times table 16) >> return true) s) ((write (ST (x .from)) >> line table (times table 16) >> return true) t)
     unfolding _>>_ _>>=_
-    read-next x h = went-on (thence-agree (λ _. line table (times table 16)) (λ _. line-open (times-open 16 (omega arith))) (writes (ST (x .from)) .law h))
+    read-next x h = went-on (thence-agree (λ _. line table (times table 16)) (λ _. line-open (times-open 16 (omega arith))) (writes _ .law h))
 
     plain-next : {p q : Answer State Bool} → Next p q → Next (after [] p) (after [] q)
     plain-next {p} {q} h = rw (after-nil p, after-nil q) h

@@ -168,17 +168,17 @@ module _ (n hi D : ℕ) (rest : List Lexeme) where
 
   atomOf-on : {m : ℕ} (k : Kind) (x : Lexeme) → x .kind ≡ k → Sound hi x → Triple Writes (Here x m) (atomOf k x) (λ _. On (m + 4 + extra k))
   unfolding atomOf extra isNumber isLineEnd character encode fields field bytes
-  atomOf-on {m} (number v) x e f = behind (λ _ d s h. on-less (omega arith) h) (andThen (past x f (ap isLineEnd e)) (λ _. before (λ d s h. on-less (omega arith) h) (pays {m = m + 4} (VC (x .from) (x .to) v) 14 (le-refl 14))))
+  atomOf-on {m} (number v) x e f = behind (λ _ d s h. on-less (omega arith) h) (andThen (past x f (ap isLineEnd e)) (λ _. before (λ d s h. on-less (omega arith) h) (pays {m = m + 4} _ 14 (le-refl 14))))
   atomOf-on {m} (quoted false g) x e f = here-fails 16
   atomOf-on {m} (quoted true []) x e f = here-fails 17
   atomOf-on {m} (quoted true (c ∷ [])) x e f =
       let z : Holds (quoted true (c ∷ [])) (x .from) (x .to) = rw e at (f .holds) in
-      behind (λ _ d s h. on-less (omega arith) h) (andThen (nexts x 2 (z .0)) (λ _. before (λ d s h. on-less (omega arith) h) (pays {m = m + 8} (VC (x .from) (x .to) c) 14 (le-refl 14))))
+      behind (λ _ d s h. on-less (omega arith) h) (andThen (nexts x 2 (z .0)) (λ _. before (λ d s h. on-less (omega arith) h) (pays {m = m + 8} _ 14 (le-refl 14))))
   atomOf-on {m} (quoted true (c ∷ d ∷ g)) x e f = here-fails 17
-  atomOf-on {m} (word w) x e f = behind (λ _ d s h. on-less (omega arith) h) (andThen (past x f (ap isLineEnd e)) (λ _. before (λ d s h. on-less (omega arith) h) (pays {m = m + 8} (VL (x .from) (x .to)) 10 (le-refl 10))))
+  atomOf-on {m} (word w) x e f = behind (λ _ d s h. on-less (omega arith) h) (andThen (past x f (ap isLineEnd e)) (λ _. before (λ d s h. on-less (omega arith) h) (pays {m = m + 8} _ 10 (le-refl 10))))
   atomOf-on {m} (mark c) x e f = whether (is "$" c) (λ _. andThen (past x f (ap isLineEnd e)) (λ _. kindThen _ λ y g. whether (isMark "$" (y .kind))
-      (λ i. andThen (past y g (mark-inside "$" (y .kind) i)) (λ _. before (λ d s h. on-less (omega arith) h) (pays {m = m + 4 + 4} (VS (x .from) (x .to)) 10 (le-refl 10))))
-      (λ _. before (λ d s h. on-less (omega arith) (h .1)) (pays {m = m + 4 + 4} (VI (x .from) (x .to)) 10 (le-refl 10))))) (λ _. here-fails 21)
+      (λ i. andThen (past y g (mark-inside "$" (y .kind) i)) (λ _. before (λ d s h. on-less (omega arith) h) (pays {m = m + 4 + 4} _ 10 (le-refl 10))))
+      (λ _. before (λ d s h. on-less (omega arith) (h .1)) (pays {m = m + 4 + 4} _ 10 (le-refl 10))))) (λ _. here-fails 21)
   atomOf-on newline x e f = here-fails 21
   atomOf-on blank x e f = here-fails 21
   atomOf-on comment x e f = here-fails 21
@@ -192,15 +192,15 @@ module _ (n hi D : ℕ) (rest : List Lexeme) where
     primary-on m x f = aheadHere _ x (whether (isMark "(" (x .kind))
         (λ e. behind (λ _ d s h. on-less (omega (arith, extra-le (x .kind))) h) (andThen (andThen (past x f (mark-inside "(" (x .kind) e)) (λ _. each (m + 18) 0)) (λ _. expects ")" 14)))
         (λ _. perhaps (operatorOf (x .kind)) (aheadHere _ x (atomOf-on (x .kind) x refl f))
-          (λ op e. behind (λ _ d s h. on-less (omega (arith, extra-le (x .kind))) h) (andThen (past x f (operator-inside (x .kind) op e)) (λ _. andThen (whether (ltb op 2) (λ _. each (m + 18) prefixLevel) (λ _. refuses (nowhere 22)))
-            (λ _. passedThen λ t. before (λ d s h. on-less (omega arith) h) (pays {m = m + 8} (PF (x .from) t op) 14 (le-refl 14))))))))
+          (λ op e. behind (λ _ d s h. on-less (omega (arith, extra-le (x .kind))) h) (andThen (past x f (operator-inside (x .kind) op e)) (λ _. andThen (whether (ltb op 2) (λ _. each (m + 18) prefixLevel) (λ _. refuses _))
+            (λ _. passedThen λ t. before (λ d s h. on-less (omega arith) h) (pays {m = m + 8} _ 14 (le-refl 14))))))))
 
     infixes-on : (m k level p : ℕ) → Triple Writes (On m) (infixes k inner level p) (λ _. On m)
     unfolding infixes encode fields field bytes
     infixes-on m zero level p = returns tt (λ d s h. h)
     infixes-on m (suc k) level p = kindThen _ λ x f. perhaps (operatorOf (x .kind)) (returns tt (λ d s h. h .1)) λ op e.
         whether (ltb (leftLevel op) level) (λ _. returns tt (λ d s h. h .1)) (λ _. andThen (past x f (operator-inside (x .kind) op e)) (λ _. andThen (each (m + 18) (rightLevel op))
-          (λ _. passedThen λ t. andThen (before (λ d s h. on-less (omega arith) h) (pays {m = m} (IN p t op) 14 (le-refl 14))) (λ _. infixes-on m k level p))))
+          (λ _. passedThen λ t. andThen (before (λ d s h. on-less (omega arith) h) (pays {m = m} _ 14 (le-refl 14))) (λ _. infixes-on m k level p))))
 
   expr-on : (k m level : ℕ) → Triple Writes (On m) (expr k level) (λ _. On (m + 4))
   unfolding expr
@@ -223,8 +223,8 @@ module _ (n hi D : ℕ) (rest : List Lexeme) where
   immediate-on : (m : ℕ) (x : Lexeme) → Sound hi x → Triple Writes (Here x (m + 6)) immediateOrFar (λ _. On (m + extra (x .kind)))
   unfolding immediateOrFar encode fields field bytes
   immediate-on m x f = aheadHere _ x (andThen (expression-first (m + 6) x f) (λ _. kindThen _ λ y g. whether (isMark ":" (y .kind))
-      (λ e. andThen (past y g (mark-inside ":" (y .kind) e)) (λ _. andThen (expression-on _) (λ _. passedThen λ t. before (λ d s h. on-less (omega arith) h) (pays {m = m + extra (x .kind)} (OF (x .from) t) 10 (le-refl 10)))))
-      (λ _. passedThen λ t. before (λ d s h. on-less (omega arith) (h .1)) (pays {m = m + extra (x .kind)} (OI (x .from) t) 10 (le-refl 10)))))
+      (λ e. andThen (past y g (mark-inside ":" (y .kind) e)) (λ _. andThen (expression-on _) (λ _. passedThen λ t. before (λ d s h. on-less (omega arith) h) (pays {m = m + extra (x .kind)} _ 10 (le-refl 10)))))
+      (λ _. passedThen λ t. before (λ d s h. on-less (omega arith) (h .1)) (pays {m = m + extra (x .kind)} _ 10 (le-refl 10)))))
 
   abbrev Reg : Option ℕ → ℕ → ℕ → Line → Type 0
   Reg none m = On m
@@ -233,8 +233,8 @@ module _ (n hi D : ℕ) (rest : List Lexeme) where
   plusIndex-on : (m f r : ℕ) (x : Lexeme) → Sound hi x → isLineEnd (x .kind) ≡ false → Triple Writes (Here x m) (plusIndex f r) (λ _. On m)
   unfolding plusIndex
   plusIndex-on m f r x g e = andThen (past x g e) (λ _. aheadThen λ y u. perhaps (nameIn registers (y .kind)) (returns none (λ d s h. on-less (omega arith) (h .1))) λ q i.
-      whether (isIndex q) (λ _. andThen (past y u (name-inside registers (y .kind) q i)) (λ _. passedThen λ t. whether (isIndex r) (λ _. refuses (at 33 f t)) (λ _. returns (some (paired r q)) (λ d s h. on-less (omega arith) h))))
-        (λ _. refuses (encoding f (y .to) r q)))
+      whether (isIndex q) (λ _. andThen (past y u (name-inside registers (y .kind) q i)) (λ _. passedThen λ t. whether (isIndex r) (λ _. refuses _) (λ _. returns (some (paired r q)) (λ d s h. on-less (omega arith) h))))
+        (λ _. refuses _))
 
   second-on : (m f r : ℕ) → Triple Writes (On m) (second f r) (λ _. On m)
   unfolding second
@@ -245,7 +245,7 @@ module _ (n hi D : ℕ) (rest : List Lexeme) where
   unfolding registersAhead
   registersAhead-on m = aheadThen λ x g. passedThen λ t. perhaps (nameIn registers (x .kind)) (returns none (λ d s h. h .1)) λ r e.
       whether (isBase r || isIndex r) (λ _. andThen (past x g (name-inside registers (x .kind) r e)) (λ _. bind (second-on (m + 18) (x .from) r) λ q. returns (some q) (λ d s h. h)))
-        (λ _. refuses (encoding (x .from) t r 255))
+        (λ _. refuses _)
 
   displacement-on : (m : ℕ) → Triple Writes (On m) displacement (λ _. On m)
   unfolding displacement
@@ -254,8 +254,8 @@ module _ (n hi D : ℕ) (rest : List Lexeme) where
 
   close-on : (m f size segment : ℕ) (e : Option ℕ) (has : ℕ) → Triple Writes (Reg e (m + 24)) (close f size segment e has) (λ _. On (m + 4))
   unfolding close encode fields field bytes
-  close-on m f size segment none has = andThen (expects "]" 13) (λ _. passedThen λ t. whether (eqb has 0) (λ _. refuses (at 32 f t)) (λ _. before (λ d s h. on-less (omega arith) h) (pays {m = m + 4} (OD f t size segment) 18 (le-refl 18))))
-  close-on m f size segment (some e) has = andThen (expects "]" 13) (λ _. passedThen λ t. before (λ d s h. on-less (omega arith) h) (pays {m = m + 4} (OX f t e has size segment) 26 (le-refl 26)))
+  close-on m f size segment none has = andThen (expects "]" 13) (λ _. passedThen λ t. whether (eqb has 0) (λ _. refuses _) (λ _. before (λ d s h. on-less (omega arith) h) (pays {m = m + 4} _ 18 (le-refl 18))))
+  close-on m f size segment (some e) has = andThen (expects "]" 13) (λ _. passedThen λ t. before (λ d s h. on-less (omega arith) h) (pays {m = m + 4} _ 26 (le-refl 26)))
 
   override-on : (m : ℕ) → Triple Writes (On m) override (λ _. On m)
   unfolding override
@@ -278,8 +278,8 @@ module _ (n hi D : ℕ) (rest : List Lexeme) where
   operandSized-on (suc k) m size x f = aheadHere _ x (whether (isMark "[" (x .kind)) (λ e. behind (λ _ d s h. on-less (omega (arith, extra-le (x .kind))) h) (memory-on m size x f (mark-inside "[" (x .kind) e)))
       (λ _. perhaps (nameIn registers (x .kind)) (perhaps (nameIn segments (x .kind)) (perhaps (nameIn sizes (x .kind)) (immediate-on m x f)
         (λ q e. andThen (past x f (name-inside sizes (x .kind) q e)) (λ _. aheadFirst λ y g. behind (λ _ d s h. on-less (omega (arith, extra-le (x .kind))) h) (before (λ d s h. (h .0, on-less {m′ = m + 18 + 6} (omega arith) (h .1))) (operandSized-on k (m + 18) (suc q) y g)))))
-        (λ q e. andThen (past x f (name-inside segments (x .kind) q e)) (λ _. before (λ d s h. on-less (omega (arith, extra-le (x .kind))) h) (pays {m = m + extra (x .kind)} (OS (x .from) (x .to) q) 14 (le-refl 14)))))
-        (λ q e. andThen (past x f (name-inside registers (x .kind) q e)) (λ _. before (λ d s h. on-less (omega (arith, extra-le (x .kind))) h) (pays {m = m + extra (x .kind)} (OR (x .from) (x .to) q) 14 (le-refl 14))))))
+        (λ q e. andThen (past x f (name-inside segments (x .kind) q e)) (λ _. before (λ d s h. on-less (omega (arith, extra-le (x .kind))) h) (pays {m = m + extra (x .kind)} _ 14 (le-refl 14)))))
+        (λ q e. andThen (past x f (name-inside registers (x .kind) q e)) (λ _. before (λ d s h. on-less (omega (arith, extra-le (x .kind))) h) (pays {m = m + extra (x .kind)} _ 14 (le-refl 14))))))
 
   operand-on : (m : ℕ) (x : Lexeme) → Sound hi x → Triple Writes (Here x (m + 6)) operand (λ _. On (m + extra (x .kind)))
   unfolding operand
@@ -310,7 +310,7 @@ module _ (n hi D : ℕ) (rest : List Lexeme) where
   pub label-on : (m : ℕ) (x : Lexeme) → Triple Writes (On (m + 10)) (label x) (λ _. On m)
   unfolding label encode fields field bytes
   label-on m x = kindThen _ λ y g. andThen (whether (isMark ":" (y .kind)) (λ e. behind (λ _ d s h. on-less (omega arith) h) (past y g (mark-inside ":" (y .kind) e))) (λ _. returns tt (λ d s h. h .1)))
-      (λ _. pays {m = m} (LL (x .from) (x .to)) 10 (le-refl 10))
+      (λ _. pays {m = m} _ 10 (le-refl 10))
 
   width-four : (width v : ℕ) → length (take width (field v)) ≤ 4
   unfolding field

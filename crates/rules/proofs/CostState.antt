@@ -138,19 +138,19 @@ module _ (n hi D : ℕ) where
   instruction-on : (m : ℕ) (x : Lexeme) (op : ℕ) → isWord (x .kind) ≡ true → Triple Writes (λ d s. Wide n hi D (flat (s .below)) (x .kind) (m + 36) d (s .line)) (instruction x op) (λ _. OnS (m + 6))
   unfolding instruction encode fields field bytes
   instruction-on m x op w = whether (eqb op rep || eqb op repne)
-      (λ _. passedS λ t. before (λ d s h. less s (omega arith) (h .0)) (paysS {m = m + 6} (LI (x .from) t op 0 t t) 26 (le-refl 26)))
+      (λ _. passedS λ t. before (λ d s h. less s (omega arith) (h .0)) (paysS {m = m + 6} _ 26 (le-refl 26)))
       (λ _. bind (inLines (λ rs. Wide n hi D (flat rs) (x .kind) (m + 36)) (λ rs _. On n hi D (flat rs) (m + 32)) (λ rs. operands-on n hi D (flat rs) m (x .kind) w)) λ o.
-        passedS λ t. andThen (lineEnd-on (m + 32)) (λ _. before (λ d s h. less s (omega arith) h) (paysS {m = m + 6} (LI (x .from) t op (o .count) (o .from) (o .to)) 26 (le-refl 26))))
+        passedS λ t. andThen (lineEnd-on (m + 32)) (λ _. before (λ d s h. less s (omega arith) h) (paysS {m = m + 6} _ 26 (le-refl 26))))
 
   constant-on : (m : ℕ) (x : Lexeme) → Triple Writes (OnS (m + 36)) (constant x) (λ _. OnS (m + 6))
   unfolding constant encode fields field bytes
   constant-on m x = andThen (inOn (m + 36) (m + 36 + 4) (λ rest. expression-on n hi D rest (m + 36))) (λ _. passedS λ t. andThen (lineEnd-on (m + 36 + 4))
-      (λ _. before (λ d s h. less s (omega arith) h) (paysS {m = m + 6} (LC (x .from) t) 10 (le-refl 10))))
+      (λ _. before (λ d s h. less s (omega arith) h) (paysS {m = m + 6} _ 10 (le-refl 10))))
 
   someData-on : (m : ℕ) (x : Lexeme) (ds : List ℕ) → Triple Writes (OnS (m + 36 + length ds)) (someData x ds) (λ _. OnS (m + 6))
   unfolding someData encode fields field bytes
-  someData-on m x [] = refuses (at 23 (x .from) (x .to))
-  someData-on m x (b ∷ bs) = passedS λ t. andThen (lineEnd-on _) (λ _. before (λ d s h. less s (omega arith) h) (paysS {m = m + 6} (LD (x .from) t (b ∷ bs)) (14 + length (b ∷ bs)) (omega arith)))
+  someData-on m x [] = refuses _
+  someData-on m x (b ∷ bs) = passedS λ t. andThen (lineEnd-on _) (λ _. before (λ d s h. less s (omega arith) h) (paysS {m = m + 6} _ (14 + length (b ∷ bs)) (omega arith)))
 
   dataOf-on : (m : ℕ) (x : Lexeme) (width : ℕ) → Triple Writes (OnS (m + 36)) (dataOf x width) (λ _. OnS (m + 6))
   unfolding dataOf
@@ -182,7 +182,7 @@ module _ (n hi D : ℕ) where
 
       content-on : (m : ℕ) (x : Lexeme) → Triple Writes (OnS (m + 4)) (content table times′ x) (λ _. OnS m)
       unfolding content encode fields field bytes
-      content-on m x = kindS _ λ y f. andThen (whether (isLineEnd (y .kind)) (λ _. refuses (at 34 (x .from) (x .to))) (λ _. line-on (m + 4)))
+      content-on m x = kindS _ λ y f. andThen (whether (isLineEnd (y .kind)) (λ _. refuses _) (λ _. line-on (m + 4)))
           (λ _. before (λ d s h. less s (omega arith) h) (paysS {m = m} LT 10 (le-refl 10)))
 
     aheadHereS : {B : Type 0} {m : ℕ} (f : Lexeme → Reader State B) {R : B → ℕ → State → Type 0} (x : Lexeme) → Triple Writes (λ d s. (s .line .here ≡ x) × OnS m d s) (f x) R → Triple Writes (λ d s. (s .line .here ≡ x) × OnS m d s) (inLine ahead >>= f) R
@@ -200,7 +200,7 @@ module _ (table : List ℕ) (proper : Proper table) (n hi : ℕ) where
   begun-on : Triple Writes (OnS n hi 6 6) (begun table) (λ _. OnS n hi 6 6)
   unfolding begun encode fields field bytes
   begun-on = aheadS n hi 6 λ x f. before (λ d s h. h .1) (whether (isLineEnd (x .kind)) (λ _. returns false (λ d s h. h))
-      (λ _. andThen (andThen (before (λ d s h. less n hi 6 s (omega arith) h) (paysS n hi 6 {m = 0} (ST (x .from)) 6 (le-refl 6))) (λ _. line-on n hi 6 table proper (times-on n hi 6 table proper 16) 0))
+      (λ _. andThen (andThen (before (λ d s h. less n hi 6 s (omega arith) h) (paysS n hi 6 {m = 0} _ 6 (le-refl 6))) (λ _. line-on n hi 6 table proper (times-on n hi 6 table proper 16) 0))
         (λ _. returns true (λ d s h. less n hi 6 s (omega arith) h))))
 
   pub statement-on : Triple Writes (OnS n hi 6 6) (statement table) (λ _. OnS n hi 6 6)

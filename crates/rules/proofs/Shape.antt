@@ -342,8 +342,8 @@ module _ (n hi p0 : ℕ) (rest : List Lexeme) where
     atomOf-on i (quoted closed s) x e f = let z : Holds (quoted closed s) (x .from) (x .to) = rw e at (f .sound .holds) in character-on i closed s x (z .1) f
     atomOf-on i (word w) x e f = one i x f (VL (x .from) (x .to)) refl tt refl
     atomOf-on i (mark c) x e f = whether (is "$" c) (λ _. andThen nexts (λ _. kindThen _ λ y g. whether (isMark "$" (y .kind))
-        (λ _. behind (λ _ k s h. on-less (le-trans (g .later) (g .sound .ordered)) (le-refl 0) h) (andThen nexts (λ _. checks (VS (x .from) (x .to)) refl tt (valued i x f))))
-        (λ _. behind (λ _ k s h. on-less (le-refl (x .to)) zero-le h) (checks (VI (x .from) (x .to)) refl tt (valued i x f))))) (λ _. here-fails 21)
+        (λ _. behind (λ _ k s h. on-less (le-trans (g .later) (g .sound .ordered)) (le-refl 0) h) (andThen nexts (λ _. checks _ refl tt (valued i x f))))
+        (λ _. behind (λ _ k s h. on-less (le-refl (x .to)) zero-le h) (checks _ refl tt (valued i x f))))) (λ _. here-fails 21)
     atomOf-on i newline x e f = here-fails 21
     atomOf-on i blank x e f = here-fails 21
     atomOf-on i comment x e f = here-fails 21
@@ -358,8 +358,8 @@ module _ (n hi p0 : ℕ) (rest : List Lexeme) where
         (λ _. andThen (andThen nexts (λ _. from-low (each _ _ i 0))) (λ _. expects ")" 14))
         (λ _. perhaps (operatorOf (x .kind))
           (aheadThen λ y g. behind (λ _ k s h. on-less (g .soon) (le-refl 0) h) (atomOf-on i (y .kind) y refl g))
-          (λ op e. andThen nexts (λ _. andThen {Q = λ _ k s. (ltb op 2 ≡ true) × On (x .to) 0 (C (suc i)) k s} (whether (ltb op 2) (λ h. behind (λ _ k s q. (h, q)) (from-low (each _ _ i prefixLevel))) (λ h. refuses (nowhere 22)))
-            (λ _. known λ h. passedThen λ t j l. checks (PF (x .from) t op) refl tt
+          (λ op e. andThen nexts (λ _. andThen {Q = λ _ k s. (ltb op 2 ≡ true) × On (x .to) 0 (C (suc i)) k s} (whether (ltb op 2) (λ h. behind (λ _ k s q. (h, q)) (from-low (each _ _ i prefixLevel))) (λ h. refuses _))
+            (λ _. known λ h. passedThen λ t j l. checks _ refl tt
               (ap (λ (o : Bool). given o (toExpression 1 (C (suc i)))) (rw (span-true (C (suc i)) (x .from) t (ctx .places (suc i)) (f .start) (le-trans (f .sound .ordered) j) l, h)) ∙ taken (toExpression 1 (C (suc i))) ∙ ctx .turn i))))))
 
       infixes-on : (b i m level p : ℕ) → p0 ≤ p → p ≤ b → Triple (Checks n) (On b 0 (C (suc i))) (infixes m inner level p) (λ _. On b 0 (C (suc i)))
@@ -367,7 +367,7 @@ module _ (n hi p0 : ℕ) (rest : List Lexeme) where
       infixes-on b i zero level p u v = returns tt (λ k s h. h)
       infixes-on b i (suc m) level p u v = kindThen _ λ x f. perhaps (operatorOf (x .kind)) (returns tt (λ k s h. on-less (le-refl b) zero-le h)) λ op e.
         whether (ltb (leftLevel op) level) (λ _. returns tt (λ k s h. on-less (le-refl b) zero-le h)) (λ _. andThen nexts (λ _. andThen (from-low (each _ _ (suc i) (rightLevel op)))
-          (λ _. passedThen λ t j l. andThen (checks (IN p t op) refl tt
+          (λ _. passedThen λ t j l. andThen (checks _ refl tt
               (ap (λ (o : Bool). given o (toExpression 2 (C (suc (suc i))))) (rw (span-true (C (suc (suc i))) p t (ctx .places (suc (suc i))) u (omega (arith, f .later, f .sound .ordered)) l, lt-ltb op 4 (operator-small (x .kind) op e))) ∙ taken (toExpression 2 (C (suc (suc i)))) ∙ ctx .join i))
             (λ _. before (λ k s h. on-less (le-trans (f .later) (f .sound .ordered)) (le-refl 0) h) (infixes-on b i m level p u v)))))
 
@@ -395,17 +395,17 @@ module _ (n hi p0 : ℕ) (rest : List Lexeme) where
       unfolding immediateOrFar checked statementFrom
       immediate-on = aheadThen λ x f. behind (λ _ k s h. on-less (f .soon) (le-refl 0) h) (andThen (expression-on 0) (λ _. kindThen _ λ y g. whether (isMark ":" (y .kind))
           (λ _. behind (λ _ k s h. on-less (le-trans (g .later) (g .sound .ordered)) (le-refl 0) h) (andThen nexts (λ _. andThen (from-low (expression-on 1)) (λ _. passedThen λ t j l.
-            checks (OF (x .from) t) refl tt (written-plain 2 (x .from) t _ (f .start) (omega (arith, f .sound .ordered, g .later, g .sound .ordered)) l double)))))
-          (λ _. behind (λ _ k s h. on-less (le-refl (x .to)) zero-le h) (passedThen λ t j l. checks (OI (x .from) t) refl tt (written-plain 1 (x .from) t _ (f .start) (le-trans (f .sound .ordered) j) l single)))))
+            checks _ refl tt (written-plain 2 (x .from) t _ (f .start) (omega (arith, f .sound .ordered, g .later, g .sound .ordered)) l double)))))
+          (λ _. behind (λ _ k s h. on-less (le-refl (x .to)) zero-le h) (passedThen λ t j l. checks _ refl tt (written-plain 1 (x .from) t _ (f .start) (le-trans (f .sound .ordered) j) l single)))))
 
       -- the registers of a bracket, past b
       plusIndex-on : {b c : ℕ} (f r : ℕ) → Triple (Checks n) (On b c (C 0)) (plusIndex f r) (λ o k s. Coded o × On c 0 (C 0) k s)
       unfolding plusIndex
       plusIndex-on f r = andThen nexts (λ _. aheadThen λ x g. perhaps (nameIn registers (x .kind)) (returns none (λ k s h. (tt, on-less (le-refl _) zero-le h))) λ q e.
           whether (isIndex q)
-            (λ _. andThen nexts (λ _. passedThen λ t j l. whether (isIndex r) (λ _. refuses (at 33 f t))
+            (λ _. andThen nexts (λ _. passedThen λ t j l. whether (isIndex r) (λ _. refuses _)
               (λ _. returns (some (paired r q)) (λ k s h. (paired-small r q, on-less (le-trans (g .later) (g .sound .ordered)) (le-refl 0) h)))))
-            (λ _. refuses (encoding f (x .to) r q)))
+            (λ _. refuses _))
 
       second-on : {b c : ℕ} (f r : ℕ) → Triple (Checks n) (On b c (C 0)) (second f r) (λ e k s. (e < 8) × On b 0 (C 0) k s)
       unfolding second
@@ -418,7 +418,7 @@ module _ (n hi p0 : ℕ) (rest : List Lexeme) where
       registersAhead-on {b} = aheadThen λ x g. passedThen λ t j l. perhaps (nameIn registers (x .kind)) (returns none (λ k s h. (tt, on-less (le-refl b) zero-le h))) λ r e.
           whether (isBase r || isIndex r)
             (λ _. andThen nexts (λ _. bind (second-on (x .from) r) λ q. known λ i. returns (some q) (λ k s h. (i, on-less (le-trans (g .later) (g .sound .ordered)) (le-refl 0) h))))
-            (λ _. refuses (encoding (x .from) t r 255))
+            (λ _. refuses _)
 
       displacement-on : {b c : ℕ} → Triple (Checks n) (On b c (C 0)) displacement (λ d k s. (d ≤ 1) × On b 0 (C d) k s)
       unfolding displacement
@@ -435,9 +435,9 @@ module _ (n hi p0 : ℕ) (rest : List Lexeme) where
       close-on f size segment e has u v z g q h = andThen (expects "]" 13) (λ _. passedThen λ t j l. coded e q t (le-trans v j) l)
         where
           coded : {b : ℕ} (e : Option ℕ) → Coded e → (t : ℕ) → f ≤ t → t ≤ n → Triple (Checks n) (On b 0 (C has)) (maybe e (if eqb has 0 then (refuse (at 32 f t)) else (write (OD f t size segment))) (λ m. write (OX f t m has size segment))) (λ _. On b 0 D)
-          coded none q t j l = whether (eqb has 0) (λ _. refuses (at 32 f t)) (λ o. checks (OD f t size segment) refl tt
+          coded none q t j l = whether (eqb has 0) (λ _. refuses _) (λ o. checks _ refl tt
             (rw (span-true (C has) f t (ctx .places has) u j l, le-leb size 2 z, le-leb segment 4 g) (ap (λ (m : ℕ). toOperand 1 (C m)) (one-has has h o) ∙ single)))
-          coded (some m) q t j l = checks (OX f t m has size segment) refl tt
+          coded (some m) q t j l = checks _ refl tt
             (rw (span-true (C has) f t (ctx .places has) u j l, lt-ltb m 8 q, le-leb has 1 h, le-leb size 2 z, le-leb segment 4 g) (operand-of has h))
 
       override-on : {b c : ℕ} → Triple (Checks n) (On b c (C 0)) override (λ z k s. (z ≤ 4) × On b 0 (C 0) k s)
@@ -460,9 +460,9 @@ module _ (n hi p0 : ℕ) (rest : List Lexeme) where
       operandSized-on (suc m) size z = aheadThen λ x f. behind (λ _ k s h. on-less (f .soon) (le-refl 0) h) (whether (isMark "[" (x .kind)) (λ _. memory-on size z)
           (λ _. perhaps (nameIn registers (x .kind)) (perhaps (nameIn segments (x .kind)) (perhaps (nameIn sizes (x .kind)) immediate-on
             (λ q e. andThen nexts (λ _. from-low (operandSized-on m (suc q) (size-small (x .kind) q e)))))
-            (λ q e. andThen nexts (λ _. checks (OS (x .from) (x .to) q) refl tt
+            (λ q e. andThen nexts (λ _. checks _ refl tt
               (rw (span-true (C 0) (x .from) (x .to) (ctx .places 0) (f .start) (f .sound .ordered) (f .inside), lt-ltb q 4 (segment-small (x .kind) q e)) lone))))
-            (λ q e. andThen nexts (λ _. checks (OR (x .from) (x .to) q) refl tt
+            (λ q e. andThen nexts (λ _. checks _ refl tt
               (rw (span-true (C 0) (x .from) (x .to) (ctx .places 0) (f .start) (f .sound .ordered) (f .inside), lt-ltb q 16 (register-small (x .kind) q e)) lone)))))
 
       pub operand-on : {b c : ℕ} → Triple (Checks n) (On b c (C 0)) operand (λ _. On c 0 D)
@@ -525,4 +525,4 @@ module _ (n hi p0 : ℕ) (rest : List Lexeme) where
   pub label-on : {b c : ℕ} (e : ℕ) (x : Lexeme) → p0 ≤ x .from → x .from ≤ x .to → x .to ≤ n → Triple (Checks n) (On b c (open′ p0 e 0 0)) (label x) (λ _. On b 0 (shut p0 e))
   unfolding label checked statementFrom
   label-on {b} e x u v l = kindThen _ λ y g. andThen (whether (isMark ":" (y .kind)) (λ _. behind (λ _ k s h. on-less (le-trans (g .later) (g .sound .ordered)) (le-refl 0) h) nexts) (λ _. returns tt (λ k s h. on-less (le-refl b) zero-le h)))
-      (λ _. checks (LL (x .from) (x .to)) refl tt (ap (λ (o : Bool). given o (toLine 0 0 (open′ p0 e 0 0))) (span-true (open′ p0 e 0 0) (x .from) (x .to) (place-open p0 e) u v l) ∙ taken (toLine 0 0 (open′ p0 e 0 0)) ∙ to-line p0 0 0 e e zero-le (omega arith)))
+      (λ _. checks _ refl tt (ap (λ (o : Bool). given o (toLine 0 0 (open′ p0 e 0 0))) (span-true (open′ p0 e 0 0) (x .from) (x .to) (place-open p0 e) u v l) ∙ taken (toLine 0 0 (open′ p0 e 0 0)) ∙ to-line p0 0 0 e e zero-le (omega arith)))

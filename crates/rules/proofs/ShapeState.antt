@@ -113,27 +113,27 @@ module _ (n hi p0 : ℕ) where
     instruction-on : {c : ℕ} (e op : ℕ) → op < 99 → Triple (Checks n) (OnS (x .to) c (open′ p0 e 0 0)) (instruction x op) (λ _. OnS (x .to) 0 (shut p0 e))
     unfolding instruction checked statementFrom given
     instruction-on e op h = whether (eqb op rep || eqb op repne)
-        (λ _. behind (λ _ k s q. on-less n hi p0 (flat (s .below)) (le-refl (x .to)) zero-le q) (passedOn λ t j l. checksS {κ′ = shut p0 e} (LI (x .from) t op 0 t t) refl tt
+        (λ _. behind (λ _ k s q. on-less n hi p0 (flat (s .below)) (le-refl (x .to)) zero-le q) (passedOn λ t j l. checksS {κ′ = shut p0 e} _ refl tt
           (rw (span-true n hi p0 [] (open′ p0 e 0 0) (x .from) t (place-open p0 e) u (le-trans v j) l, span-true n hi p0 [] (open′ p0 e 0 0) t t (place-open p0 e) (le-trans u (le-trans v j)) (le-refl t) l, lt-ltb op 99 h) (to-line p0 0 0 e e zero-le (omega arith)))))
         (λ _. bind (inLines (λ rs. On n hi p0 (flat rs) (x .to) _ (open′ p0 e 0 0)) (λ rs o k s. Counted n p0 o × On n hi p0 (flat rs) (x .to) 0 (open′ p0 e (o .count) 0) k s) (λ rs. operands-on n hi p0 (flat rs) e (le-trans u v))) λ o. known λ q. passedOn λ t j l. andThen lineEnd-on (λ _.
-          checksS {κ′ = shut p0 e} (LI (x .from) t op (o .count) (o .from) (o .to)) refl tt
+          checksS {κ′ = shut p0 e} _ refl tt
           (rw (span-true n hi p0 [] (open′ p0 e (o .count) 0) (x .from) t (place-any e (o .count)) u (le-trans v j) l, span-true n hi p0 [] (open′ p0 e (o .count) 0) (o .from) (o .to) (place-any e (o .count)) (q .start) (q .ordered) (q .inside),
             lt-ltb op 99 h, le-leb (o .count) 2 (q .few)) (to-line p0 0 (o .count) e e zero-le (omega arith)))))
 
     constant-on : {c : ℕ} (e : ℕ) → Triple (Checks n) (OnS (x .to) c (open′ p0 e 0 0)) (constant x) (λ _. OnS (x .to) 0 (shut p0 e))
     unfolding constant checked statementFrom
     constant-on e = andThen (inOn (λ rest. before (λ k s h. on-soon n hi p0 rest h) (expression-on n hi p0 rest (first-context p0 e) 0)))
-        (λ _. passedOn λ t j l. andThen lineEnd-on (λ _. checksS (LC (x .from) t) refl tt (lined (open′ p0 (suc e) 0 0) (x .from) t 1 0 (place-open p0 (suc e)) u (le-trans v j) l (to-line p0 1 0 (suc e) e (omega arith) (omega arith)))))
+        (λ _. passedOn λ t j l. andThen lineEnd-on (λ _. checksS _ refl tt (lined (open′ p0 (suc e) 0 0) (x .from) t 1 0 (place-open p0 (suc e)) u (le-trans v j) l (to-line p0 1 0 (suc e) e (omega arith) (omega arith)))))
 
     someData-on : (e : ℕ) (ds : List ℕ) → Triple (Checks n) (λ k s. Data n hi p0 (flat (s .below)) (x .to) (open′ p0 e 0 0) ds k (s .line)) (someData x ds) (λ _. OnS (x .to) 0 (shut p0 e))
     unfolding someData checked statementFrom given
-    someData-on e [] = refuses (at 23 (x .from) (x .to))
+    someData-on e [] = refuses _
     someData-on e (d ∷ ds) = askPassedS λ t. derive {F = (x .to ≤ t) × (t ≤ n) × (length (d ∷ ds) ≤ 4 * t)} (λ k s h.
           let (a, b) = between n hi p0 (flat (s .below)) k (s .line) (h .0, h .1 .1) in
           let m : length (d ∷ ds) + 4 * x .to ≤ 4 * s .line .last = h .1 .0 in
           let l : s .line .last ≡ t = h .0 in
           (a, b, omega arith))
-        (λ g. before (λ k s h. h .1 .1) (andThen lineEnd-on (λ _. checksS {κ′ = shut p0 e} (LD (x .from) t (d ∷ ds)) refl (g .2)
+        (λ g. before (λ k s h. h .1 .1) (andThen lineEnd-on (λ _. checksS {κ′ = shut p0 e} _ refl (g .2)
           (rw (span-true n hi p0 [] (open′ p0 e 0 0) (x .from) t (place-open p0 e) u (le-trans v (g .0)) (g .1), lt-ltb 0 (suc (length ds)) (omega arith)) (to-line p0 0 0 e e zero-le (omega arith))))))
 
     dataOf-on : {c : ℕ} (e width : ℕ) → Triple (Checks n) (OnS (x .to) c (open′ p0 e 0 0)) (dataOf x width) (λ _. OnS (x .to) 0 (shut p0 e))
@@ -159,7 +159,7 @@ module _ (n hi p0 : ℕ) where
       content-on : {b : ℕ} (e : ℕ) (x : Lexeme) → Triple (Checks n) (OnS b 0 (open′ p0 (suc e) 0 0)) (content table times′ x) (λ _. OnS b 0 (shut p0 e))
       unfolding content checked statementFrom
       content-on {b} e x = kindS _ λ y f. behind (λ _ k s h. on-less n hi p0 (flat (s .below)) (le-trans (f .later) (f .sound .ordered)) (le-refl 0) h)
-          (andThen (whether (isLineEnd (y .kind)) (λ _. refuses (at 34 (x .from) (x .to))) (λ _. line-on (suc e))) (λ _. checksS LT refl tt (closes-eq n p0 e)))
+          (andThen (whether (isLineEnd (y .kind)) (λ _. refuses _) (λ _. line-on (suc e))) (λ _. checksS LT refl tt (closes-eq n p0 e)))
 
     times-on : (m b c e : ℕ) → Triple (Checks n) (OnS b c (open′ p0 e 0 0)) (times table m) (λ _. OnS c 0 (shut p0 e))
     unfolding times
