@@ -22,6 +22,7 @@ use Rattle.rules.specs.Decode.{decode}
 use Rattle.rules.specs.WellFormed.{wellFormed}
 use Rattle.rules.specs.Patch.{beginsLine, above, lineAt, behind, edited, linesFrom, nearest, lacksContent, isOpen, leavesOpen, openLine, statementFrom, recordsBelow, recordsOn, Edit, exchanged, placedIn, reread, patched, patch}
 use Rattle.rules.proofs.Shape.{Small}
+use Rattle.rules.proofs.Calls.{Accepted, accepted-call}
 use Rattle.rules.proofs.Table.{Proper}
 use Rattle.rules.proofs.Cut.{IsOpen, Gives, lineFeed, from-run, accepts-run, refuses-run, gives as given}
 use Rattle.rules.proofs.Listing.{Inner, Headed, inner-append, from-mono, gives-fits, gives-feed, listing-formed, listing-decodes}
@@ -147,38 +148,6 @@ unfoldable pub exchangedBy : ℕ → ℕ → ℕ → List Record → Outcome →
 exchangedBy a p q w (accepted v) = accepted (exchanged a p q w v)
 exchangedBy a p q w (refusal r) = refusal r
 
-unless-gives : {A : Type 0} (b : Bool) (r : Refusal) (x : Result A) (y : A) → unless b r x ≡ gives y → (b ≡ false) × (x ≡ gives y)
-unfolding unless
-unless-gives true r x y h = absurd (true≢false cc)
-unless-gives false r x y h = (refl, h)
-
--- bytes that are no more than 127
-none-foreign : (p : ℕ) (s : List ℕ) → foreign p s ≡ none → Small s
-unfolding foreign
-none-foreign p [] h = tt
-none-foreign p (c ∷ cs) h = go (ltb 127 c) refl h (λ e. none-foreign (suc p) cs e)
-  where
-    go : (b : Bool) → ltb 127 c ≡ b → _≡_ {A = Option ℕ} (if b then (some p) else (foreign (suc p) cs)) none → (foreign (suc p) cs ≡ none → Small cs) → (c ≤ 2147483647) × Small cs
-    go true e i again = absurd (true≢false cc)
-    go false e i again = (omega (arith, ltb-false 127 c e), again i)
-
-ascii-gives : {A : Type 0} (s : List ℕ) (x : Result A) (y : A) → ascii s x ≡ gives y → Small s × (x ≡ gives y)
-unfolding ascii
-ascii-gives s x y h = go (foreign 0 s) refl h
-  where
-    go : (o : Option ℕ) → foreign 0 s ≡ o → maybe o x (λ p. refuses (at 2 p (suc p))) ≡ gives y → Small s × (x ≡ gives y)
-    go none e′ e = (none-foreign 0 s e′, e)
-    go (some p) e′ e = absurd (true≢false cc)
-
-listed-gives : (room : ℕ) (o : Outcome) (w : List Record) → listed room o ≡ gives w → o ≡ accepted w
-unfolding listed inRoom
-listed-gives room (accepted v) w h = let (_, i) = unless-gives (ltb room (length (listing v))) (nowhere 4) (gives v) w h in cc
-listed-gives room (refusal r) w h = absurd (true≢false cc)
-
-short-is : (s : List ℕ) → tooLong s ≡ false → length s ≤ 65536
-unfolding tooLong mostBytes
-short-is s e = ltb-false 65536 (length s) e
-
 edits-unless : (s : List ℕ) (b : Bool) (r : Refusal) (x : Result (List Record)) → edits s (unless b r x) ≡ unless b r (edits s x)
 unfolding unless edits
 edits-unless s true r x = refl
@@ -263,19 +232,6 @@ module _ (table : List ℕ) (proper : Proper table) where
         joined-alike (take a old) (lineAt old a) new (behind old a) (at′ .lines) (run-behind (drop a old)) (closed-above (take a old) (at′ .lines) m) (closed (lineAt old a) i) (closed new k)
           w u (small-same (split-line old a) sm) (gives-same table 0 (split-line old a) g) a (omega (arith, length-take-le a old (at′ .fits)))
 
-  -- What an accepted full read says.
-  pub record Accepted (s : List ℕ) (w : List Record) : Type 0 where
-    pub short : length s ≤ 65536
-    pub small : Small s
-    pub reads : fullRead table s ≡ accepted w
-
-  pub accepted-call : (s : List ℕ) (room : ℕ) (w : List Record) → fullCall table s room ≡ gives w → Accepted s w
-  unfolding fullCall lent
-  accepted-call s room w h =
-      let (i, j) = unless-gives (tooLong s) (nowhere 1) (ascii s (listed room (fullRead table s))) w h in
-      let (sm, q) = ascii-gives s (listed room (fullRead table s)) w j in
-      record { short = short-is s i; small = sm; reads = listed-gives room (fullRead table s) w q }
-
   patched-is : (old : List ℕ) (w : List Record) (a : ℕ) (new : List ℕ) (roomS roomL : ℕ) → beginsLine old a ≡ true → openLine table old a new ≡ false → Small old → fullRead table old ≡ accepted w → length (edited old a new) ≤ roomS
       → patched table old (some w) a new roomS roomL ≡ edits (edited old a new) (listed roomL (fullRead table (edited old a new)))
   unfolding patched unless
@@ -288,7 +244,7 @@ module _ (table : List ℕ) (proper : Proper table) where
       → patch table old (listing w) a new roomS roomL ≡ edits (edited old a new) (fullCall table (edited old a new) roomL)
   unfolding patch fullCall lent unless tooLong mostBytes
   demand-3 old w a new room roomS roomL acc h f o r =
-      let A : Accepted old w = accepted-call old room w acc in
+      let A : Accepted table old w = accepted-call table old room w acc in
       let d : decode (listing w) ≡ some w = listing-decodes table proper old w (A .small) (A .short) (A .reads) in
       let i : ltb 65536 (length old) ≡ false = le-ltb 65536 (length old) (A .short) in
       let ed : List ℕ = edited old a new in

@@ -22,6 +22,7 @@ pub mod CostState
 pub mod Cut
 pub mod Exchange
 pub mod Listing
+pub mod Calls
 pub mod Demand3
 pub mod Bound
 pub mod KnownPatch
