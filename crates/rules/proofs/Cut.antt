@@ -65,29 +65,28 @@ blankRows [] = true
 blankRows (r ∷ rs) = isLineEnd (r .first .kind) && blankRows rs
 
 -- past empty lines one is at the end, with no row that has a token, or at a token
-module _ where
-  arrive-done : (x : Lexeme) (p : Answer State (Unit {0})) {w : List Record} {t : State} → arrive x p ≡ done w tt t → p ≡ done w tt t
-  unfolding arrive
-  arrive-done x p {w} {t} h = go (refusedAs (x .kind)) h
-    where
-      go : (o : Option ℕ) → maybe o p (λ n. refused (at n (x .from) (x .to))) ≡ done w tt t → p ≡ done w tt t
-      go none e = e
-      go (some n) e = absurd (true≢false cc)
+pub arrive-done : {A : Type 0} (x : Lexeme) (p : Answer State A) {w : List Record} {a : A} {t : State} → arrive x p ≡ done w a t → p ≡ done w a t
+unfolding arrive
+arrive-done x p {w} {a} {t} h = go (refusedAs (x .kind)) h
+  where
+    go : (o : Option ℕ) → maybe o p (λ n. refused (at n (x .from) (x .to))) ≡ done w a t → p ≡ done w a t
+    go none e = e
+    go (some n) e = absurd (true≢false cc)
 
-  skip-blank : (l : Line) (rs : List Row) {w : List Record} {t : State} → skip l rs ≡ done w tt t → isLineEnd (t .line .here .kind) ≡ true → isLineEnd (l .here .kind) && blankRows rs ≡ true
-  unfolding skip blankRows firstOf
-  skip-blank l [] {w} {t} h e =
-      let y : record { line = l; below = [] } ≡ t = cc in
-      let z : isLineEnd (l .here .kind) ≡ true = ap (λ (u : State). isLineEnd (u .line .here .kind)) y ∙ e in
-      rw z
-  skip-blank l (r ∷ rs) {w} {t} h e = go (isLineEnd (l .here .kind)) refl h (λ j. skip-blank (firstOf r) rs j e)
-    where
-      go : (b : Bool) → isLineEnd (l .here .kind) ≡ b → _≡_ {A = Answer State (Unit {0})} (if b then (arrive (r .first) (skip (firstOf r) rs)) else (done [] tt (record { line = l; below = r ∷ rs }))) (done w tt t)
-          → (skip (firstOf r) rs ≡ done w tt t → isLineEnd (r .first .kind) && blankRows rs ≡ true) → b && (isLineEnd (r .first .kind) && blankRows rs) ≡ true
-      go true i j again = again (arrive-done (r .first) (skip (firstOf r) rs) j)
-      go false i j again =
-        let y : record { line = l; below = r ∷ rs } ≡ t = cc in
-        sym i ∙ ap (λ (u : State). isLineEnd (u .line .here .kind)) y ∙ e
+pub skip-blank : (l : Line) (rs : List Row) {w : List Record} {t : State} → skip l rs ≡ done w tt t → isLineEnd (t .line .here .kind) ≡ true → isLineEnd (l .here .kind) && blankRows rs ≡ true
+unfolding skip blankRows firstOf
+skip-blank l [] {w} {t} h e =
+    let y : record { line = l; below = [] } ≡ t = cc in
+    let z : isLineEnd (l .here .kind) ≡ true = ap (λ (u : State). isLineEnd (u .line .here .kind)) y ∙ e in
+    rw z
+skip-blank l (r ∷ rs) {w} {t} h e = go (isLineEnd (l .here .kind)) refl h (λ j. skip-blank (firstOf r) rs j e)
+  where
+    go : (b : Bool) → isLineEnd (l .here .kind) ≡ b → _≡_ {A = Answer State (Unit {0})} (if b then (arrive (r .first) (skip (firstOf r) rs)) else (done [] tt (record { line = l; below = r ∷ rs }))) (done w tt t)
+        → (skip (firstOf r) rs ≡ done w tt t → isLineEnd (r .first .kind) && blankRows rs ≡ true) → b && (isLineEnd (r .first .kind) && blankRows rs) ≡ true
+    go true i j again = again (arrive-done (r .first) (skip (firstOf r) rs) j)
+    go false i j again =
+      let y : record { line = l; below = r ∷ rs } ≡ t = cc in
+      sym i ∙ ap (λ (u : State). isLineEnd (u .line .here .kind)) y ∙ e
 
 -- The rows of the bytes from a place on, and what they give.
 unfoldable pub rowsFrom : ℕ → List ℕ → List Row
@@ -265,7 +264,7 @@ unfolding skip
 skip-step l r rs h = rw h
 
 -- Where no row has a token, nothing is read.
-skip-over : (l : Line) (rs : List Row) → isLineEnd (l .here .kind) && blankRows rs ≡ true → (u : State) × (skip l rs ≡ done [] tt u) × Ending u
+pub skip-over : (l : Line) (rs : List Row) → isLineEnd (l .here .kind) && blankRows rs ≡ true → (u : State) × (skip l rs ≡ done [] tt u) × Ending u
 unfolding skip blankRows firstOf
 skip-over l [] h = (record { line = l; below = [] }, refl, record { over′ = sym (and-true (isLineEnd (l .here .kind))) ∙ h; none′ = refl })
 skip-over l (r ∷ rs) h =
@@ -321,11 +320,11 @@ module _ (table : List ℕ) where
   unfolding content _>>=_ _>>_ thence inLine over kind
   content-at m x t h = rw h
 
-  begun-at : (t : State) → isLineEnd (t .line .here .kind) ≡ false → begun table t ≡ after [] (thence (after (ST (t .line .here .from) ∷ []) (line table (times table 16) t)) (λ _. return true))
+  pub begun-at : (t : State) → isLineEnd (t .line .here .kind) ≡ false → begun table t ≡ after [] (thence (after (ST (t .line .here .from) ∷ []) (line table (times table 16) t)) (λ _. return true))
   unfolding begun _>>=_ _>>_ thence inLine over ahead write
   begun-at t h = rw h
 
-  statement-is : (s : State) → statement table s ≡ thence (skipLines s) (λ _. begun table)
+  pub statement-is : (s : State) → statement table s ≡ thence (skipLines s) (λ _. begun table)
   unfolding statement _>>=_ _>>_
   statement-is s = refl
 

@@ -21,7 +21,7 @@ use Rattle.rules.specs.Calls.{Result, gives, refuses, unless, mostBytes,
 use Rattle.rules.specs.Decode.{decode}
 use Rattle.rules.specs.WellFormed.{wellFormed}
 use Rattle.rules.specs.Patch.{beginsLine, above, lineAt, behind, edited, linesFrom, nearest, lacksContent, isOpen, leavesOpen, openLine, statementFrom, recordsBelow, recordsOn, Edit, exchanged, placedIn, reread, patched, patch}
-use Rattle.rules.proofs.Shape.{Small}
+use Rattle.rules.proofs.Shape.{Small, small-split, small-append, small-parts}
 use Rattle.rules.proofs.Calls.{Accepted, accepted-call}
 use Rattle.rules.proofs.Table.{Proper}
 use Rattle.rules.proofs.Cut.{IsOpen, Gives, lineFeed, from-run, accepts-run, refuses-run, gives as given}
@@ -61,17 +61,6 @@ module _ (a b : ℕ) (h : a ≤ b) where
       go : (c : Bool) → statementFrom a r ≡ c → c ≡ true
       go true e = refl
       go false e = absurd (true≢false (sym i ∙ from-mono a b h r e))
-
-small-split : (a b : List ℕ) → Small (a ++ b) → Small a × Small b
-small-split [] b h = (tt, h)
-small-split (c ∷ a) b h = let (i, j) = small-split a b (h .1) in ((h .0, i), j)
-
-small-append : (a b : List ℕ) → Small a → Small b → Small (a ++ b)
-small-append [] b h i = i
-small-append (c ∷ a) b h i = (h .0, small-append a b (h .1) i)
-
-small-parts : (n : ℕ) (s : List ℕ) → Small s → Small (take n s) × Small (drop n s)
-small-parts n s h = small-split (take n s) (drop n s) (rw (take-append-drop n s) h)
 
 small-same : {s t : List ℕ} → s ≡ t → Small s → Small t
 small-same e h = rw e at h

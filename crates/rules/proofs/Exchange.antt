@@ -20,9 +20,6 @@ use Rattle.rules.proofs.Append.{Begins}
 use Rattle.rules.proofs.Cut.{IsOpen, Lack, mild-or-lack, not-both, open-after, blankRows, rowsFrom, Gives, gives, begins-only, some-row, Then, goes, stands, lacks, sequel, moved, gives-shift, open-moved, moved-open, lineFeed, alone-open, blank-end, blank-gives, blank-split, nothing-gives, endRow}
 use Rattle.rules.specs.Patch.{allEnds, bareLine, nearest}
 
-zero-one : _≡_ {A = ℕ} 0 1 → ⊥
-zero-one h = omega arith
-
 -- lines, each with a line feed
 unfoldable pub whole : List (List ℕ) → List ℕ
 whole [] = []
@@ -33,7 +30,7 @@ unfolding push blankRows
 push-blank x [] h = rw h
 push-blank x (r ∷ rs) h = rw h
 
-ends-rows : (xs : List Lexeme) → blankRows (rows xs) ≡ allEnds xs
+pub ends-rows : (xs : List Lexeme) → blankRows (rows xs) ≡ allEnds xs
 unfolding rows blankRows allEnds
 ends-rows [] = refl
 ends-rows (x ∷ xs) = go (isLineEnd (x .kind)) refl (ends-rows xs)

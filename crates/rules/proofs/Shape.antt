@@ -10,7 +10,7 @@ use Prim.Native.String.{String}
 use native.Mathlib.Omega.{arith}
 use native.Mathlib.Nat.{le-refl, le-trans}
 use lib.Dec.{eqb, leb, ltb}
-use lib.ListN.{length, take, length-append, length-take}
+use lib.ListN.{length, take, drop, length-append, length-take, take-append-drop}
 use borrow.Author.Tests.{le-leb, lt-ltb, le-ltb, ne-eqb, eq-eqb, ltb-true}
 use Rattle.lexer.specs.Text.{if_then_else_, maybe, is, bytes, same}
 use Rattle.rules.specs.Lexemes.{Kind, word, number, quoted, mark, newline, blank, comment, invalid, end, bad, Lexeme, textOf, nameIn, operationIn}
@@ -50,6 +50,17 @@ Extra LT = Unit {0}
 abbrev pub Small : List ℕ → Type 0
 Small [] = Unit {0}
 Small (c ∷ cs) = (c ≤ 2147483647) × Small cs
+
+pub small-split : (a b : List ℕ) → Small (a ++ b) → Small a × Small b
+small-split [] b h = (tt, h)
+small-split (c ∷ a) b h = let (i, j) = small-split a b (h .1) in ((h .0, i), j)
+
+pub small-append : (a b : List ℕ) → Small a → Small b → Small (a ++ b)
+small-append [] b h i = i
+small-append (c ∷ a) b h i = (h .0, small-append a b (h .1) i)
+
+pub small-parts : (n : ℕ) (s : List ℕ) → Small s → Small (take n s) × Small (drop n s)
+small-parts n s h = small-split (take n s) (drop n s) (rw (take-append-drop n s) h)
 
 abbrev pub Holds : Kind → ℕ → ℕ → Type 0
 Holds (number v) f t = v ≤ 2147483647

@@ -182,7 +182,7 @@ pub record Ready (lo : ℕ) (κ : Stack) : Type 0 where
 
 module _ (n hi : ℕ) where
   pub data Stated (lo : ℕ) (κ : Stack) : Answer State Bool → Type 0 where
-    began : {q lo′ : ℕ} {v : List Record} {s : State} {κ₁ κ′ : Stack} → lo ≤ q → q < hi → lo ≤ lo′ → checked n κ (ST q) ≡ some κ₁ → Run (Checks n) κ₁ v κ′ → Ready lo′ κ′ → OnS n hi 0 lo′ 0 κ′ κ′ s → Stated lo κ (done (ST q ∷ v) true s)
+    began : {q lo′ : ℕ} {v : List Record} {s : State} {κ₁ κ′ : Stack} → lo ≤ q → q < hi → q < lo′ → checked n κ (ST q) ≡ some κ₁ → Run (Checks n) κ₁ v κ′ → Ready lo′ κ′ → OnS n hi 0 lo′ 0 κ′ κ′ s → Stated lo κ (done (ST q ∷ v) true s)
     ended : {s : State} → Stated lo κ (done [] false s)
     failed : {r : Refusal} → Stated lo κ (refused r)
 
@@ -208,11 +208,11 @@ module _ (n hi : ℕ) where
       go false p = skips h
 
   -- the records of a statement behind its first
-  started : (lo q t : ℕ) (κ κ₁ : Stack) → lo ≤ q → q < hi → suc q ≤ t → lo ≤ t → checked n κ (ST q) ≡ some κ₁ → {p : Answer State (Unit {0})} → Post (Checks n) (λ _. OnS n hi q t 0 (shut q 0)) κ₁ p
+  started : (lo q t : ℕ) (κ κ₁ : Stack) → lo ≤ q → q < hi → suc q ≤ t → checked n κ (ST q) ≡ some κ₁ → {p : Answer State (Unit {0})} → Post (Checks n) (λ _. OnS n hi q t 0 (shut q 0)) κ₁ p
       → Stated lo κ (thence (after (ST q ∷ []) p) (λ _. return true))
   unfolding thence after return
-  started lo q t κ κ₁ i j l m e (holds {w = w} {s = s} {g′ = k′} r o) = rw (append-nil w) (began i j m e r (record { done′ = ready-shut q k′ (o .same); from′ = rw (floor-shut q k′ (o .same)) l }) (record { same = refl; low = o .low; gap = o .gap; soon = zero-le; chain = chain-low n hi q 0 (s .line .here ∷ (s .line .more ++ flat (s .below))) zero-le (o .chain) }))
-  started lo q t κ κ₁ i j l m e fails = failed
+  started lo q t κ κ₁ i j l e (holds {w = w} {s = s} {g′ = k′} r o) = rw (append-nil w) (began i j l e r (record { done′ = ready-shut q k′ (o .same); from′ = rw (floor-shut q k′ (o .same)) l }) (record { same = refl; low = o .low; gap = o .gap; soon = zero-le; chain = chain-low n hi q 0 (s .line .here ∷ (s .line .more ++ flat (s .below))) zero-le (o .chain) }))
+  started lo q t κ κ₁ i j l e fails = failed
 
   starts : (κ : Stack) (q : ℕ) → complete κ ≡ true → κ .floor ≤ q → q ≤ n → checked n κ (ST q) ≡ some (open′ q 0 0 0)
   unfolding checked allow open′
@@ -232,7 +232,7 @@ module _ (n hi : ℕ) where
           let x : Lexeme = s .line .here in
           let f : Facts n hi 0 lo 0 x = facts n hi 0 (flat (s .below)) lo 0 κ κ (s .line) h in
           let (i, j) = f .sound .strict e in
-          started lo (x .from) (x .to) κ (open′ (x .from) 0 0 0) (f .later) (le-trans i j) i (le-trans (f .later) (f .sound .ordered))
+          started lo (x .from) (x .to) κ (open′ (x .from) 0 0 0) (f .later) (le-trans i j) i
             (starts κ (x .from) (y .done′) (le-trans (y .from′) (f .later)) (le-trans (f .sound .ordered) (f .inside)))
             (line-on n hi (x .from) table proper (times-on n hi (x .from) table proper 16) {b = 0} {c = x .to} 0 .law (open′ (x .from) 0 0 0) s
               (record { same = refl; low = zero-le; gap = h .gap; soon = le-refl (x .to); chain = (le-refl (x .from), h .chain .1, h .chain .2) }))
