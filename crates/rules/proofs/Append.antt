@@ -202,8 +202,15 @@ module _ (table : List ℕ) where
     unfolding thence after
     then-agree g c (both h) = both h
     then-agree g c (neither m) = neither m
-    then-agree g c (lacking {q = q} l p) = lacking tt (record { n = p .n; x = p .x; w = p .w; z = p .z ++ g; a = c; few = p .few;
-        form = ap (λ (r : Answer State _). thence r (λ _ s. done g c s)) (p .form) ∙ closing-then (p .w) (p .z) g (p .a) c _ })
+    then-agree g c (lacking {q = q} l p) = lacking tt (record {
+      n = p .n;
+      x = p .x;
+      w = p .w;
+      z = p .z ++ g;
+      a = c;
+      few = p .few;
+      form = ap (λ (r : Answer State _). thence r (λ _ s. done g c s)) (p .form) ∙ closing-then (p .w) (p .z) g (p .a) c _;
+    })
     then-agree g c (halted l e h) = halted tt e h
 
     thenWrites : {R R′ : State → State → Type 0} {m : Reader State (Unit {0})} (r : Record) → Keeps b bs true R R′ m → Keeps b bs true R R′ (m >> write r)
@@ -337,7 +344,7 @@ module _ (table : List ℕ) where
       where
         go′ : (o : Bool) → isLineEnd (l .here .kind) ≡ o → (Skipped es b bs) (skip (firstOf r) (rs ++ es)) (skip (firstOf r) (rs ++ (b ∷ bs)))
             → (Skipped es b bs) (if o then (arrive (r .first) (skip (firstOf r) (rs ++ es))) else (done [] tt (record { line = l; below = r ∷ (rs ++ es) })))
-              (if o then (arrive (r .first) (skip (firstOf r) (rs ++ (b ∷ bs)))) else (done [] tt (record { line = l; below = r ∷ (rs ++ (b ∷ bs)) })))
+            (if o then (arrive (r .first) (skip (firstOf r) (rs ++ (b ∷ bs)))) else (done [] tt (record { line = l; below = r ∷ (rs ++ (b ∷ bs)) })))
         go′ true h i = arrive-skipped (r .first) i
         go′ false h i = still (inside l (r ∷ rs)) h
 
@@ -377,8 +384,15 @@ module _ (table : List ℕ) where
     unfolding return thence after
     went-on (both h) = went h
     went-on (neither m) = stopped m
-    went-on (lacking {q = q} l p) = lacks (record { n = p .n; x = p .x; w = p .w; z = p .z ++ []; a = true; few = p .few;
-        form = ap (λ (r : Answer State _). thence r (λ _ s. done [] true s)) (p .form) ∙ closing-then (p .w) (p .z) [] (p .a) true _ })
+    went-on (lacking {q = q} l p) = lacks (record {
+      n = p .n;
+      x = p .x;
+      w = p .w;
+      z = p .z ++ [];
+      a = true;
+      few = p .few;
+      form = ap (λ (r : Answer State _). thence r (λ _ s. done [] true s)) (p .form) ∙ closing-then (p .w) (p .z) [] (p .a) true _;
+    })
     went-on (halted l e h) = halts e h
 
     read-next : (x : Lexeme) {s t : State} → (In es b bs) s t → Next ((write (ST (x .from)) >> line table (times table 16) >> return true) s) ((write (ST (x .from)) >> line table (times table 16) >> return true) t)

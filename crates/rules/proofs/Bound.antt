@@ -121,7 +121,7 @@ lead p zero (c ∷ cs) m h o =
     let t : TokenRead = tokenAt (c ∷ cs) in
     let e : p + 0 ≡ p = omega arith in
     rw e (put-beyond p t (c ∷ cs) (tokensFrom (suc p) (pred (sizeOf t)) cs) (λ i. true≢false (sym (digit-part c (number-digit t c cs (tokenAt-begun c cs) i)) ∙ o))
-      (from-chain (suc p + length cs) (suc p + length cs) p (tokensFrom (suc p) (pred (sizeOf t)) cs) (chain-low (suc p + length cs) (suc p + length cs) (suc p + pred (sizeOf t)) (suc p) (tokensFrom (suc p) (pred (sizeOf t)) cs) (omega arith) (chain-skip (suc p) (pred (sizeOf t)) cs (m .1) (omega (arith, tokenAt-le (c ∷ cs)))))))
+    (from-chain (suc p + length cs) (suc p + length cs) p (tokensFrom (suc p) (pred (sizeOf t)) cs) (chain-low (suc p + length cs) (suc p + length cs) (suc p + pred (sizeOf t)) (suc p) (tokensFrom (suc p) (pred (sizeOf t)) cs) (omega arith) (chain-skip (suc p) (pred (sizeOf t)) cs (m .1) (omega (arith, tokenAt-le (c ∷ cs)))))))
 
 put-spaced : (p : ℕ) (t : TokenRead) (s : List ℕ) (xs : List Lexeme) → (isWord (kindOf t s) ≡ true → Beyond (p + sizeOf t) xs) → Spaced xs → Spaced (put p t s xs)
 unfolding put lexeme
@@ -142,7 +142,7 @@ spaced p zero (c ∷ cs) m h =
     let j : sizeOf t ≤ suc (length cs) = tokenAt-le (c ∷ cs) in
     let e : p + sizeOf t ≡ suc p + pred (sizeOf t) = omega arith in
     put-spaced p t (c ∷ cs) (tokensFrom (suc p) (pred (sizeOf t)) cs)
-      (λ w. rw e (lead (suc p) (pred (sizeOf t)) cs (m .1) (omega arith) (stops-behind c cs w))) (spaced (suc p) (pred (sizeOf t)) cs (m .1) (omega arith))
+    (λ w. rw e (lead (suc p) (pred (sizeOf t)) cs (m .1) (omega arith) (stops-behind c cs w))) (spaced (suc p) (pred (sizeOf t)) cs (m .1) (omega arith))
 
 module _ (table : List ℕ) (proper : Proper table) where
   module _ (n hi : ℕ) where

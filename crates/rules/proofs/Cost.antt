@@ -131,8 +131,10 @@ module _ (n hi D : ℕ) (rest : List Lexeme) where
         let z : Spaced (s .here ∷ y ∷ (ys ++ rest)) = rw e at (h .spaced) in
         let f : k + s .here .from ≤ s .here .to = rw q i in
         let g : s .here .to ≤ y .from = c .0 in
-        arrive-post y (now (record { paid = omega (arith, h .paid); chain = chain-low n hi (s .here .to) 0 (y ∷ (ys ++ rest)) zero-le c; spaced = z .1 },
-          λ w v. let u : s .here .to < y .from = z .0 (ap (λ (x : Lexeme). isWord (x .kind)) q ∙ w) v in omega (arith, h .paid)))
+        arrive-post y (now (
+          record { paid = omega (arith, h .paid); chain = chain-low n hi (s .here .to) 0 (y ∷ (ys ++ rest)) zero-le c; spaced = z .1 },
+          λ w v. let u : s .here .to < y .from = z .0 (ap (λ (x : Lexeme). isWord (x .kind)) q ∙ w) v in omega (arith, h .paid),
+        ))
 
     pub nexts : (x : Lexeme) (k : ℕ) → k + x .from ≤ x .to → Triple Writes (Here x m) next (λ _. On (m + 18 * k))
     unfolding next
@@ -192,15 +194,15 @@ module _ (n hi D : ℕ) (rest : List Lexeme) where
     primary-on m x f = aheadHere _ x (whether (isMark "(" (x .kind))
         (λ e. behind (λ _ d s h. on-less (omega (arith, extra-le (x .kind))) h) (andThen (andThen (past x f (mark-inside "(" (x .kind) e)) (λ _. each (m + 18) 0)) (λ _. expects ")" 14)))
         (λ _. perhaps (operatorOf (x .kind)) (aheadHere _ x (atomOf-on (x .kind) x refl f))
-          (λ op e. behind (λ _ d s h. on-less (omega (arith, extra-le (x .kind))) h) (andThen (past x f (operator-inside (x .kind) op e)) (λ _. andThen (whether (ltb op 2) (λ _. each (m + 18) prefixLevel) (λ _. refuses _))
-            (λ _. passedThen λ t. before (λ d s h. on-less (omega arith) h) (pays {m = m + 8} _ 14 (le-refl 14))))))))
+        (λ op e. behind (λ _ d s h. on-less (omega (arith, extra-le (x .kind))) h) (andThen (past x f (operator-inside (x .kind) op e)) (λ _. andThen (whether (ltb op 2) (λ _. each (m + 18) prefixLevel) (λ _. refuses _))
+        (λ _. passedThen λ t. before (λ d s h. on-less (omega arith) h) (pays {m = m + 8} _ 14 (le-refl 14))))))))
 
     infixes-on : (m k level p : ℕ) → Triple Writes (On m) (infixes k inner level p) (λ _. On m)
     unfolding infixes encode fields field bytes
     infixes-on m zero level p = returns tt (λ d s h. h)
     infixes-on m (suc k) level p = kindThen _ λ x f. perhaps (operatorOf (x .kind)) (returns tt (λ d s h. h .1)) λ op e.
         whether (ltb (leftLevel op) level) (λ _. returns tt (λ d s h. h .1)) (λ _. andThen (past x f (operator-inside (x .kind) op e)) (λ _. andThen (each (m + 18) (rightLevel op))
-          (λ _. passedThen λ t. andThen (before (λ d s h. on-less (omega arith) h) (pays {m = m} _ 14 (le-refl 14))) (λ _. infixes-on m k level p))))
+        (λ _. passedThen λ t. andThen (before (λ d s h. on-less (omega arith) h) (pays {m = m} _ 14 (le-refl 14))) (λ _. infixes-on m k level p))))
 
   expr-on : (k m level : ℕ) → Triple Writes (On m) (expr k level) (λ _. On (m + 4))
   unfolding expr
@@ -234,7 +236,7 @@ module _ (n hi D : ℕ) (rest : List Lexeme) where
   unfolding plusIndex
   plusIndex-on m f r x g e = andThen (past x g e) (λ _. aheadThen λ y u. perhaps (nameIn registers (y .kind)) (returns none (λ d s h. on-less (omega arith) (h .1))) λ q i.
       whether (isIndex q) (λ _. andThen (past y u (name-inside registers (y .kind) q i)) (λ _. passedThen λ t. whether (isIndex r) (λ _. refuses _) (λ _. returns (some (paired r q)) (λ d s h. on-less (omega arith) h))))
-        (λ _. refuses _))
+      (λ _. refuses _))
 
   second-on : (m f r : ℕ) → Triple Writes (On m) (second f r) (λ _. On m)
   unfolding second
@@ -245,7 +247,7 @@ module _ (n hi D : ℕ) (rest : List Lexeme) where
   unfolding registersAhead
   registersAhead-on m = aheadThen λ x g. passedThen λ t. perhaps (nameIn registers (x .kind)) (returns none (λ d s h. h .1)) λ r e.
       whether (isBase r || isIndex r) (λ _. andThen (past x g (name-inside registers (x .kind) r e)) (λ _. bind (second-on (m + 18) (x .from) r) λ q. returns (some q) (λ d s h. h)))
-        (λ _. refuses _)
+      (λ _. refuses _)
 
   displacement-on : (m : ℕ) → Triple Writes (On m) displacement (λ _. On m)
   unfolding displacement
@@ -277,9 +279,9 @@ module _ (n hi D : ℕ) (rest : List Lexeme) where
   operandSized-on zero m size x f = immediate-on m x f
   operandSized-on (suc k) m size x f = aheadHere _ x (whether (isMark "[" (x .kind)) (λ e. behind (λ _ d s h. on-less (omega (arith, extra-le (x .kind))) h) (memory-on m size x f (mark-inside "[" (x .kind) e)))
       (λ _. perhaps (nameIn registers (x .kind)) (perhaps (nameIn segments (x .kind)) (perhaps (nameIn sizes (x .kind)) (immediate-on m x f)
-        (λ q e. andThen (past x f (name-inside sizes (x .kind) q e)) (λ _. aheadFirst λ y g. behind (λ _ d s h. on-less (omega (arith, extra-le (x .kind))) h) (before (λ d s h. (h .0, on-less {m′ = m + 18 + 6} (omega arith) (h .1))) (operandSized-on k (m + 18) (suc q) y g)))))
-        (λ q e. andThen (past x f (name-inside segments (x .kind) q e)) (λ _. before (λ d s h. on-less (omega (arith, extra-le (x .kind))) h) (pays {m = m + extra (x .kind)} _ 14 (le-refl 14)))))
-        (λ q e. andThen (past x f (name-inside registers (x .kind) q e)) (λ _. before (λ d s h. on-less (omega (arith, extra-le (x .kind))) h) (pays {m = m + extra (x .kind)} _ 14 (le-refl 14))))))
+      (λ q e. andThen (past x f (name-inside sizes (x .kind) q e)) (λ _. aheadFirst λ y g. behind (λ _ d s h. on-less (omega (arith, extra-le (x .kind))) h) (before (λ d s h. (h .0, on-less {m′ = m + 18 + 6} (omega arith) (h .1))) (operandSized-on k (m + 18) (suc q) y g)))))
+      (λ q e. andThen (past x f (name-inside segments (x .kind) q e)) (λ _. before (λ d s h. on-less (omega (arith, extra-le (x .kind))) h) (pays {m = m + extra (x .kind)} _ 14 (le-refl 14)))))
+      (λ q e. andThen (past x f (name-inside registers (x .kind) q e)) (λ _. before (λ d s h. on-less (omega (arith, extra-le (x .kind))) h) (pays {m = m + extra (x .kind)} _ 14 (le-refl 14))))))
 
   operand-on : (m : ℕ) (x : Lexeme) → Sound hi x → Triple Writes (Here x (m + 6)) operand (λ _. On (m + extra (x .kind)))
   unfolding operand
@@ -292,20 +294,22 @@ module _ (n hi D : ℕ) (rest : List Lexeme) where
     where
       go : (d : ℕ) (s : Line) → Wide k (m + 36) d s → (b : Bool) → isNumber (s .here .kind) ≡ b → Post Writes (λ _. On (m + 34)) d (operand s)
       go d s h true e = behind (λ _ d s q. on-less {m′ = m + 34} (omega arith) q) (operand-on (m + 48) (s .here) (h .0 .chain .1)) .law d s
-        (refl, record { paid = omega (arith, h .1 w e); chain = h .0 .chain; spaced = h .0 .spaced })
+          (refl, record { paid = omega (arith, h .1 w e); chain = h .0 .chain; spaced = h .0 .spaced })
       go d s h false e = let i : extra (s .here .kind) ≡ 4 = extra-is (s .here .kind) e in behind (λ _ d s q. on-less {m′ = m + 34} (omega arith) q) (operand-on (m + 30) (s .here) (h .0 .chain .1)) .law d s
-        (refl, on-less (omega arith) (h .0))
+          (refl, on-less (omega arith) (h .0))
 
   pub operands-on : (m : ℕ) (k : Kind) → isWord k ≡ true → Triple Writes (Wide k (m + 36)) operands (λ _. On (m + 32))
   unfolding operands ahead _>>=_ thence
-  operands-on m k w = record { law = λ d s h. after-post nil (passedThen {P = Wide k (m + 36)} (λ l. whether (isLineEnd (s .here .kind))
-      (λ _. returns (record { count = 0; from = l; to = l }) (λ d s h. on-less (omega arith) (h .0)))
-      (λ _. andThen (first-on m k w) (λ _. kindThen _ λ y g. whether (isLineEnd (y .kind))
+  operands-on m k w = record {
+    law = λ d s h. after-post nil (passedThen {P = Wide k (m + 36)} (λ l. whether (isLineEnd (s .here .kind))
+        (λ _. returns (record { count = 0; from = l; to = l }) (λ d s h. on-less (omega arith) (h .0)))
+        (λ _. andThen (first-on m k w) (λ _. kindThen _ λ y g. whether (isLineEnd (y .kind))
         (λ _. passedThen λ t. returns (record { count = 1; from = s .here .from; to = t }) (λ d s h. on-less (omega arith) (h .1)))
         (λ _. whether (isMark "," (y .kind))
-          (λ e. andThen (past y g (mark-inside "," (y .kind) e)) (λ _. aheadFirst λ z u. andThen (before (λ d s h. (h .0, on-less {m′ = m + 32 + 6} (omega arith) (h .1))) (operand-on (m + 32) z u))
-            (λ _. passedThen λ t. returns (record { count = 2; from = s .here .from; to = t }) (λ d s h. on-less (omega arith) h))))
-          (λ _. here-fails 11))))) .law d s h) }
+        (λ e. andThen (past y g (mark-inside "," (y .kind) e)) (λ _. aheadFirst λ z u. andThen (before (λ d s h. (h .0, on-less {m′ = m + 32 + 6} (omega arith) (h .1))) (operand-on (m + 32) z u))
+        (λ _. passedThen λ t. returns (record { count = 2; from = s .here .from; to = t }) (λ d s h. on-less (omega arith) h))))
+        (λ _. here-fails 11))))) .law d s h);
+  }
 
   pub label-on : (m : ℕ) (x : Lexeme) → Triple Writes (On (m + 10)) (label x) (λ _. On m)
   unfolding label encode fields field bytes

@@ -140,7 +140,7 @@ module _ (n hi D : ℕ) where
   instruction-on m x op w = whether (eqb op rep || eqb op repne)
       (λ _. passedS λ t. before (λ d s h. less s (omega arith) (h .0)) (paysS {m = m + 6} _ 26 (le-refl 26)))
       (λ _. bind (inLines (λ rs. Wide n hi D (flat rs) (x .kind) (m + 36)) (λ rs _. On n hi D (flat rs) (m + 32)) (λ rs. operands-on n hi D (flat rs) m (x .kind) w)) λ o.
-        passedS λ t. andThen (lineEnd-on (m + 32)) (λ _. before (λ d s h. less s (omega arith) h) (paysS {m = m + 6} _ 26 (le-refl 26))))
+      passedS λ t. andThen (lineEnd-on (m + 32)) (λ _. before (λ d s h. less s (omega arith) h) (paysS {m = m + 6} _ 26 (le-refl 26))))
 
   constant-on : (m : ℕ) (x : Lexeme) → Triple Writes (OnS (m + 36)) (constant x) (λ _. OnS (m + 6))
   unfolding constant encode fields field bytes
@@ -175,9 +175,9 @@ module _ (n hi D : ℕ) where
       unfolding line
       line-on m = aheadS λ x f. perhaps (operationIn table (x .kind))
           (perhaps (nameIn directives (x .kind))
-            (whether (isWord (x .kind)) (λ w. passing-on m 1 x (omega (arith, f .strict (word-inside (x .kind) w) .0)) (before (λ d s h. less s (omega arith) (h .0)) (inOn (m + 6 + 10) (m + 6) (λ rest. label-on n hi D rest (m + 6) x)))) (λ _. here-failsS 20))
-            λ r e. whether (eqb r 0) (λ _. passing-on m 2 x (two x r f e) (before (λ d s h. less s (omega arith) (h .0)) (constant-on m x)))
-              (λ _. whether (ltb r 3) (λ _. passing-on m 2 x (two x r f e) (before (λ d s h. less s (omega arith) (h .0)) (dataOf-on m x r))) (λ _. nested m x f (two x r f e))))
+          (whether (isWord (x .kind)) (λ w. passing-on m 1 x (omega (arith, f .strict (word-inside (x .kind) w) .0)) (before (λ d s h. less s (omega arith) (h .0)) (inOn (m + 6 + 10) (m + 6) (λ rest. label-on n hi D rest (m + 6) x)))) (λ _. here-failsS 20))
+          λ r e. whether (eqb r 0) (λ _. passing-on m 2 x (two x r f e) (before (λ d s h. less s (omega arith) (h .0)) (constant-on m x)))
+          (λ _. whether (ltb r 3) (λ _. passing-on m 2 x (two x r f e) (before (λ d s h. less s (omega arith) (h .0)) (dataOf-on m x r))) (λ _. nested m x f (two x r f e))))
           λ op e. passing-on m 2 x (two-operation x op f e) (instruction-on m x op (operation-word table (x .kind) op e))
 
       content-on : (m : ℕ) (x : Lexeme) → Triple Writes (OnS (m + 4)) (content table times′ x) (λ _. OnS m)
@@ -201,7 +201,7 @@ module _ (table : List ℕ) (proper : Proper table) (n hi : ℕ) where
   unfolding begun encode fields field bytes
   begun-on = aheadS n hi 6 λ x f. before (λ d s h. h .1) (whether (isLineEnd (x .kind)) (λ _. returns false (λ d s h. h))
       (λ _. andThen (andThen (before (λ d s h. less n hi 6 s (omega arith) h) (paysS n hi 6 {m = 0} _ 6 (le-refl 6))) (λ _. line-on n hi 6 table proper (times-on n hi 6 table proper 16) 0))
-        (λ _. returns true (λ d s h. less n hi 6 s (omega arith) h))))
+      (λ _. returns true (λ d s h. less n hi 6 s (omega arith) h))))
 
   pub statement-on : Triple Writes (OnS n hi 6 6) (statement table) (λ _. OnS n hi 6 6)
   unfolding statement

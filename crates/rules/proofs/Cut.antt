@@ -85,8 +85,8 @@ skip-blank l (r ∷ rs) {w} {t} h e = go (isLineEnd (l .here .kind)) refl h (λ 
         → (skip (firstOf r) rs ≡ done w tt t → isLineEnd (r .first .kind) && blankRows rs ≡ true) → b && (isLineEnd (r .first .kind) && blankRows rs) ≡ true
     go true i j again = again (arrive-done (r .first) (skip (firstOf r) rs) j)
     go false i j again =
-      let y : record { line = l; below = r ∷ rs } ≡ t = cc in
-      sym i ∙ ap (λ (u : State). isLineEnd (u .line .here .kind)) y ∙ e
+        let y : record { line = l; below = r ∷ rs } ≡ t = cc in
+        sym i ∙ ap (λ (u : State). isLineEnd (u .line .here .kind)) y ∙ e
 
 -- The rows of the bytes from a place on, and what they give.
 unfoldable pub rowsFrom : ℕ → List ℕ → List Row
@@ -282,7 +282,8 @@ blank-split p (c ∷ cs) B l =
     let n : ℕ = p + length (c ∷ cs) in
     let u : List Row = rows (tokensWithin p 0 (c ∷ cs)) in
     ap blankRows (rows-before p c cs l B) ∙ blank-append u (rowsFrom n B)
-      ∙ ap (λ (b : Bool). b && blankRows (rowsFrom n B)) (sym (ap blankRows (rows-alone p c cs l) ∙ blank-append u (endRow n ∷ []) ∙ ap (λ (b : Bool). blankRows u && b) (blank-last n) ∙ and-true (blankRows u)))
+    ∙ ap (λ (b : Bool). b && blankRows (rowsFrom n B)) (sym (ap blankRows (rows-alone p c cs l) ∙ blank-append u (endRow n ∷ []) ∙ ap (λ (b : Bool). blankRows u && b) (blank-last n) ∙ and-true (blankRows u)))
+
 run-accepted : (a : Answer State (Unit {0})) (w : List Record) → outcome a ≡ accepted w → (u : State) × (a ≡ done w tt u)
 unfolding outcome
 run-accepted (done v x u) w e = let z : v ≡ w = cc in (u, ap (λ (l : List Record). done l tt u) z)
@@ -371,7 +372,7 @@ module _ (table : List ℕ) where
         go : (o : Bool) → isLineEnd (t .line .here .kind) ≡ o → IsOpen q′
         go true i = absurd (true≢false (sym (skipped-blank w0 t e i) ∙ n))
         go false i = core (line-deep table (times-deep table (p .n) 16 (p .few)) .law t) (p .w) w0 (p .z) (p .a) (t .line .here .from)
-          (pending-done p w0 t (coming-fine f ∙ e) i) (statement-done w0 t e i) c (continues table g) h
+            (pending-done p w0 t (coming-fine f ∙ e) i) (statement-done w0 t e i) c (continues table g) h
 
     pub late-opens : blankRows (b ∷ bs) ≡ false → {a : Answer State Bool} (p : Pending table b bs a) {q q′ : Answer State (Unit {0})} → Continues table a q → Begins table (b ∷ bs) q′ → IsOpen q → IsOpen q′
     late-opens n p c (fine f g) h = late-at f n p (skipLines (enter b bs)) refl c g h
@@ -472,7 +473,6 @@ module _ (table : List ℕ) where
       let (u, j, n) = skip-over (firstOf r) rs i in
       let m : statement table (enter r rs) ≡ done [] false u = statement-is (enter r rs) ∙ ap (λ (p : Answer State (Unit {0})). thence p (λ _. begun table)) j ∙ ap (after []) (begun-ends table u n) in
       (u, begins-only (rw e at g) (fine (end-fine (r .first .kind) k) (Reads.stop m)))
-
 
   -- readFrom is the run's outcome
   pub from-run : (p : ℕ) (s : List ℕ) {a : Answer State (Unit {0})} → Gives p s a → readFrom table p s ≡ outcome a

@@ -184,14 +184,14 @@ module _ (table : List ℕ) (proper : Proper table) where
       kept-is : recordsBelow (0 + length A) w ≡ E .kept
       kept-is = ap (recordsBelow (0 + length A)) (E .joined) ∙ below-kept (0 + length A) (E .kept) (E .dropped ++ E .rest) (gives-fits table proper 0 A (E .kept) (E .u₀) smA (E .keeps) .inner)
           (headed-append (0 + length A) (E .dropped) (E .rest) (gives-fits table proper _ _ (E .dropped) (E .u₁) (small-append L (take 1 B) smL (small-parts 1 B smB .0)) (E .drops) .headed)
-            (headed-mono (0 + length A) (0 + length A + length L) (omega arith) (E .rest) after-line))
+          (headed-mono (0 + length A) (0 + length A + length L) (omega arith) (E .rest) after-line))
 
       rest-is : recordsOn (0 + length A + length L) w ≡ E .rest
       rest-is = ap (recordsOn (0 + length A + length L)) (E .joined ∙ sym (append-assoc (E .kept) (E .dropped) (E .rest)))
           ∙ on-rest (0 + length A + length L) (E .kept ++ E .dropped) (E .rest)
-            (inner-append (0 + length A + length L) (E .kept) (E .dropped)
-              (inner-mono (0 + length A) (0 + length A + length L) (omega arith) (E .kept) (gives-fits table proper 0 A (E .kept) (E .u₀) smA (E .keeps) .inner))
-              (dropped-inner (0 + length A) L B b (E .dropped) (E .u₁) smL (E .drops))) after-line
+          (inner-append (0 + length A + length L) (E .kept) (E .dropped)
+          (inner-mono (0 + length A) (0 + length A + length L) (omega arith) (E .kept) (gives-fits table proper 0 A (E .kept) (E .u₀) smA (E .keeps) .inner))
+          (dropped-inner (0 + length A) L B b (E .dropped) (E .u₁) smL (E .drops))) after-line
 
       alike : (o : Outcome) → readFrom table (0 + length A) (N ++ take 1 B) ≡ o → readFrom table 0 (A ++ (N ++ B)) ≡ exchangedBy (0 + length A) (length L) (length N) w o
       unfolding exchangedBy exchanged outcome
@@ -219,7 +219,7 @@ module _ (table : List ℕ) (proper : Proper table) where
         let (k, m) = or-split (leavesOpen table new) (maybe (nearest (linesFrom [] (take a old))) false (leavesOpen table)) j in
         let (u, g) = accepts-run table 0 old w e in
         joined-alike (take a old) (lineAt old a) new (behind old a) (at′ .lines) (run-behind (drop a old)) (closed-above (take a old) (at′ .lines) m) (closed (lineAt old a) i) (closed new k)
-          w u (small-same (split-line old a) sm) (gives-same table 0 (split-line old a) g) a (omega (arith, length-take-le a old (at′ .fits)))
+        w u (small-same (split-line old a) sm) (gives-same table 0 (split-line old a) g) a (omega (arith, length-take-le a old (at′ .fits)))
 
   patched-is : (old : List ℕ) (w : List Record) (a : ℕ) (new : List ℕ) (roomS roomL : ℕ) → beginsLine old a ≡ true → openLine table old a new ≡ false → Small old → fullRead table old ≡ accepted w → length (edited old a new) ≤ roomS
       → patched table old (some w) a new roomS roomL ≡ edits (edited old a new) (listed roomL (fullRead table (edited old a new)))
@@ -238,4 +238,4 @@ module _ (table : List ℕ) (proper : Proper table) where
       let i : ltb 65536 (length old) ≡ false = le-ltb 65536 (length old) (A .short) in
       let ed : List ℕ = edited old a new in
       rw (h, f, i, d, patched-is old w a new roomS roomL h o (A .small) (A .reads) r)
-        (sym (edits-unless ed (ltb 65536 (length ed)) (nowhere 1) (ascii ed (listed roomL (fullRead table ed))) ∙ ap (unless (ltb 65536 (length ed)) (nowhere 1)) (edits-ascii ed ed (listed roomL (fullRead table ed)))))
+      (sym (edits-unless ed (ltb 65536 (length ed)) (nowhere 1) (ascii ed (listed roomL (fullRead table ed))) ∙ ap (unless (ltb 65536 (length ed)) (nowhere 1)) (edits-ascii ed ed (listed roomL (fullRead table ed)))))

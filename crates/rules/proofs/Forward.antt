@@ -129,7 +129,7 @@ module _ (table : List ℕ) where
         let n : ℕ = p + length t in
         let (r, rs, e) = some-row p t in
         rw e (arrive-ahead p (r .first) (statement table (enter r rs))
-          (stated-ahead n n p (statement-stated n n table proper p fresh (enter r rs) (fresh-ready p) (enter-on n n p fresh r rs (chain-rows n n p p t e (chain-plain p t m))))))
+        (stated-ahead n n p (statement-stated n n table proper p fresh (enter r rs) (fresh-ready p) (enter-on n n p fresh r rs (chain-rows n n p p t e (chain-plain p t m))))))
 
     -- Each statement read moves at least one byte forward.
     pub forward : (source : List ℕ) (p room : ℕ) {w : List Record} {q : ℕ} → statementCall table source p room ≡ gives (found w q) → p < q

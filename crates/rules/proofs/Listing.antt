@@ -69,7 +69,6 @@ module _ (a b : ℕ) (h : a ≤ b) where
   from-mono (LC p q) e = refl
   from-mono LT e = refl
 
-
 extras-append : (w v : List Record) → Extras w → Extras v → Extras (w ++ v)
 extras-append [] v h i = i
 extras-append (r ∷ rs) v h i = (h .0, extras-append rs v (h .1) i)
@@ -117,8 +116,14 @@ module _ (n hi : ℕ) where
 
   first-fits : (lo q lo′ : ℕ) (κ κ₁ κ′ : Stack) (v w : List Record) → lo ≤ q → q < hi → checked n κ (ST q) ≡ some κ₁ → Run (Checks n) κ₁ v κ′ → Fits lo′ κ′ w → Fits lo κ (ST q ∷ (v ++ w))
   unfolding checkedAll statementFrom
-  first-fits lo q lo′ κ κ₁ κ′ v w i j e r f = record { top = f .top; checks = rw e (run-checked w r ∙ f .checks); whole = f .whole; headed = le-leb lo q i;
-    inner = (lt-leb hi q j, inner-append hi v w (run-inner r) (f .inner)); extras = (tt, extras-append v w (run-extras r) (f .extras)) }
+  first-fits lo q lo′ κ κ₁ κ′ v w i j e r f = record {
+    top = f .top;
+    checks = rw e (run-checked w r ∙ f .checks);
+    whole = f .whole;
+    headed = le-leb lo q i;
+    inner = (lt-leb hi q j, inner-append hi v w (run-inner r) (f .inner));
+    extras = (tt, extras-append v w (run-extras r) (f .extras));
+  }
 
   with-first : (lo q lo′ : ℕ) (κ κ₁ κ′ : Stack) (v : List Record) → lo ≤ q → q < hi → checked n κ (ST q) ≡ some κ₁ → Run (Checks n) κ₁ v κ′ → {p : Answer State (Unit {0})} → Listed lo′ κ′ p → Listed lo κ (after (ST q ∷ v) p)
   unfolding after

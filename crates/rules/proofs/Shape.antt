@@ -238,13 +238,21 @@ module _ (p0 : ℕ) where
 
   pub first-context : (e : ℕ) → Context p0 (λ i. open′ p0 (up e i) 0 0)
   unfolding open′
-  first-context e = record { places = λ i. refl; push = λ i. expression-first 0 (up e i) (suc (up e i)) zero-le (omega arith);
-    turn = λ i. expression-first 1 (suc (up e i)) (suc (up e i)) (omega arith) (omega arith); join = λ i. expression-first 2 (suc (suc (up e i))) (suc (up e i)) (omega arith) (omega arith) }
+  first-context e = record {
+    places = λ i. refl;
+    push = λ i. expression-first 0 (up e i) (suc (up e i)) zero-le (omega arith);
+    turn = λ i. expression-first 1 (suc (up e i)) (suc (up e i)) (omega arith) (omega arith);
+    join = λ i. expression-first 2 (suc (suc (up e i))) (suc (up e i)) (omega arith) (omega arith);
+  }
 
   pub second-context : (e : ℕ) → Context p0 (λ i. open′ p0 e 1 i)
   unfolding open′
-  second-context e = record { places = λ i. refl; push = λ i. expression-second 0 e i (suc i) zero-le (omega arith);
-    turn = λ i. expression-second 1 e (suc i) (suc i) (omega arith) (omega arith); join = λ i. expression-second 2 e (suc (suc i)) (suc i) (omega arith) (omega arith) }
+  second-context e = record {
+    places = λ i. refl;
+    push = λ i. expression-second 0 e i (suc i) zero-le (omega arith);
+    turn = λ i. expression-second 1 e (suc i) (suc i) (omega arith) (omega arith);
+    join = λ i. expression-second 2 e (suc (suc i)) (suc i) (omega arith) (omega arith);
+  }
 
 width-four : (width v : ℕ) → length (take width (field v)) ≤ 4
 unfolding field
@@ -279,9 +287,11 @@ module _ (n hi p0 : ℕ) (rest : List Lexeme) where
     -- at the token x
     at-token : {A : Type 0} {m : Reader Line A} {R : A → Stack → Line → Type 0} (x : Lexeme) → (Facts n hi p0 b c x → Triple (Checks n) (On b (x .to) κ) m R)
         → Triple (Checks n) (λ k s. (s .here ≡ x) × On b c κ k s) m R
-    at-token x e = record { law = λ k s h.
-        let i : x .to ≤ s .here .to = rw (h .0) (le-refl (x .to)) in
-        e (rw (h .0) at (facts b c κ k s (h .1))) .law k s (record { same = h .1 .same; low = h .1 .low; gap = h .1 .gap; soon = i; chain = h .1 .chain }) }
+    at-token x e = record {
+      law = λ k s h.
+          let i : x .to ≤ s .here .to = rw (h .0) (le-refl (x .to)) in
+          e (rw (h .0) at (facts b c κ k s (h .1))) .law k s (record { same = h .1 .same; low = h .1 .low; gap = h .1 .gap; soon = i; chain = h .1 .chain });
+    }
 
     -- what is passed
     pub between : {t : ℕ} (k : Stack) (s : Line) → (s .last ≡ t) × On b c κ k s → (b ≤ t) × (t ≤ n)
@@ -306,8 +316,13 @@ module _ (n hi p0 : ℕ) (rest : List Lexeme) where
     unfolding step isLineEnd
     step-on k [] s e h =
         let i : Chain n hi (s .here .to) rest = rw e at (h .chain .2) in
-        holds nil (record { same = h .same; low = h .soon; gap = le-refl (s .here .to); soon = zero-le;
-          chain = (le-trans (h .chain .0) (h .chain .1 .ordered), record { ordered = le-refl (s .here .to); strict = λ z. absurd (true≢false z); holds = tt }, i) })
+        holds nil (record {
+          same = h .same;
+          low = h .soon;
+          gap = le-refl (s .here .to);
+          soon = zero-le;
+          chain = (le-trans (h .chain .0) (h .chain .1 .ordered), record { ordered = le-refl (s .here .to); strict = λ z. absurd (true≢false z); holds = tt }, i);
+        })
     step-on k (y ∷ ys) s e h =
         let i : Chain n hi (s .here .to) (y ∷ (ys ++ rest)) = rw e at (h .chain .2) in
         arrive-post y (holds nil (record { same = h .same; low = h .soon; gap = i .0; soon = zero-le; chain = chain-low n hi (s .here .to) p0 (y ∷ (ys ++ rest)) (le-trans (h .chain .0) (h .chain .1 .ordered)) i }))
@@ -366,21 +381,21 @@ module _ (n hi p0 : ℕ) (rest : List Lexeme) where
       primary-on : {b c : ℕ} (i : ℕ) → Triple (Checks n) (On b c (C i)) (primary inner) (λ _. On c 0 (C (suc i)))
       unfolding primary atom checked statementFrom
       primary-on i = aheadThen λ x f. behind (λ _ k s h. on-less (f .soon) (le-refl 0) h) (whether (isMark "(" (x .kind))
-        (λ _. andThen (andThen nexts (λ _. from-low (each _ _ i 0))) (λ _. expects ")" 14))
-        (λ _. perhaps (operatorOf (x .kind))
+          (λ _. andThen (andThen nexts (λ _. from-low (each _ _ i 0))) (λ _. expects ")" 14))
+          (λ _. perhaps (operatorOf (x .kind))
           (aheadThen λ y g. behind (λ _ k s h. on-less (g .soon) (le-refl 0) h) (atomOf-on i (y .kind) y refl g))
           (λ op e. andThen nexts (λ _. andThen {Q = λ _ k s. (ltb op 2 ≡ true) × On (x .to) 0 (C (suc i)) k s} (whether (ltb op 2) (λ h. behind (λ _ k s q. (h, q)) (from-low (each _ _ i prefixLevel))) (λ h. refuses _))
-            (λ _. known λ h. passedThen λ t j l. checks _ refl tt
-              (ap (λ (o : Bool). given o (toExpression 1 (C (suc i)))) (rw (span-true (C (suc i)) (x .from) t (ctx .places (suc i)) (f .start) (le-trans (f .sound .ordered) j) l, h)) ∙ taken (toExpression 1 (C (suc i))) ∙ ctx .turn i))))))
+          (λ _. known λ h. passedThen λ t j l. checks _ refl tt
+          (ap (λ (o : Bool). given o (toExpression 1 (C (suc i)))) (rw (span-true (C (suc i)) (x .from) t (ctx .places (suc i)) (f .start) (le-trans (f .sound .ordered) j) l, h)) ∙ taken (toExpression 1 (C (suc i))) ∙ ctx .turn i))))))
 
       infixes-on : (b i m level p : ℕ) → p0 ≤ p → p ≤ b → Triple (Checks n) (On b 0 (C (suc i))) (infixes m inner level p) (λ _. On b 0 (C (suc i)))
       unfolding infixes checked statementFrom
       infixes-on b i zero level p u v = returns tt (λ k s h. h)
       infixes-on b i (suc m) level p u v = kindThen _ λ x f. perhaps (operatorOf (x .kind)) (returns tt (λ k s h. on-less (le-refl b) zero-le h)) λ op e.
-        whether (ltb (leftLevel op) level) (λ _. returns tt (λ k s h. on-less (le-refl b) zero-le h)) (λ _. andThen nexts (λ _. andThen (from-low (each _ _ (suc i) (rightLevel op)))
+          whether (ltb (leftLevel op) level) (λ _. returns tt (λ k s h. on-less (le-refl b) zero-le h)) (λ _. andThen nexts (λ _. andThen (from-low (each _ _ (suc i) (rightLevel op)))
           (λ _. passedThen λ t j l. andThen (checks _ refl tt
-              (ap (λ (o : Bool). given o (toExpression 2 (C (suc (suc i))))) (rw (span-true (C (suc (suc i))) p t (ctx .places (suc (suc i))) u (omega (arith, f .later, f .sound .ordered)) l, lt-ltb op 4 (operator-small (x .kind) op e))) ∙ taken (toExpression 2 (C (suc (suc i)))) ∙ ctx .join i))
-            (λ _. before (λ k s h. on-less (le-trans (f .later) (f .sound .ordered)) (le-refl 0) h) (infixes-on b i m level p u v)))))
+          (ap (λ (o : Bool). given o (toExpression 2 (C (suc (suc i))))) (rw (span-true (C (suc (suc i))) p t (ctx .places (suc (suc i))) u (omega (arith, f .later, f .sound .ordered)) l, lt-ltb op 4 (operator-small (x .kind) op e))) ∙ taken (toExpression 2 (C (suc (suc i)))) ∙ ctx .join i))
+          (λ _. before (λ k s h. on-less (le-trans (f .later) (f .sound .ordered)) (le-refl 0) h) (infixes-on b i m level p u v)))))
 
     expr-on : (d b c i level : ℕ) → Triple (Checks n) (On b c (C i)) (expr d level) (λ _. On c 0 (C (suc i)))
     unfolding expr
@@ -406,7 +421,7 @@ module _ (n hi p0 : ℕ) (rest : List Lexeme) where
       unfolding immediateOrFar checked statementFrom
       immediate-on = aheadThen λ x f. behind (λ _ k s h. on-less (f .soon) (le-refl 0) h) (andThen (expression-on 0) (λ _. kindThen _ λ y g. whether (isMark ":" (y .kind))
           (λ _. behind (λ _ k s h. on-less (le-trans (g .later) (g .sound .ordered)) (le-refl 0) h) (andThen nexts (λ _. andThen (from-low (expression-on 1)) (λ _. passedThen λ t j l.
-            checks _ refl tt (written-plain 2 (x .from) t _ (f .start) (omega (arith, f .sound .ordered, g .later, g .sound .ordered)) l double)))))
+          checks _ refl tt (written-plain 2 (x .from) t _ (f .start) (omega (arith, f .sound .ordered, g .later, g .sound .ordered)) l double)))))
           (λ _. behind (λ _ k s h. on-less (le-refl (x .to)) zero-le h) (passedThen λ t j l. checks _ refl tt (written-plain 1 (x .from) t _ (f .start) (le-trans (f .sound .ordered) j) l single)))))
 
       -- the registers of a bracket, past b
@@ -414,9 +429,9 @@ module _ (n hi p0 : ℕ) (rest : List Lexeme) where
       unfolding plusIndex
       plusIndex-on f r = andThen nexts (λ _. aheadThen λ x g. perhaps (nameIn registers (x .kind)) (returns none (λ k s h. (tt, on-less (le-refl _) zero-le h))) λ q e.
           whether (isIndex q)
-            (λ _. andThen nexts (λ _. passedThen λ t j l. whether (isIndex r) (λ _. refuses _)
-              (λ _. returns (some (paired r q)) (λ k s h. (paired-small r q, on-less (le-trans (g .later) (g .sound .ordered)) (le-refl 0) h)))))
-            (λ _. refuses _))
+          (λ _. andThen nexts (λ _. passedThen λ t j l. whether (isIndex r) (λ _. refuses _)
+          (λ _. returns (some (paired r q)) (λ k s h. (paired-small r q, on-less (le-trans (g .later) (g .sound .ordered)) (le-refl 0) h)))))
+          (λ _. refuses _))
 
       second-on : {b c : ℕ} (f r : ℕ) → Triple (Checks n) (On b c (C 0)) (second f r) (λ e k s. (e < 8) × On b 0 (C 0) k s)
       unfolding second
@@ -428,8 +443,8 @@ module _ (n hi p0 : ℕ) (rest : List Lexeme) where
       unfolding registersAhead
       registersAhead-on {b} = aheadThen λ x g. passedThen λ t j l. perhaps (nameIn registers (x .kind)) (returns none (λ k s h. (tt, on-less (le-refl b) zero-le h))) λ r e.
           whether (isBase r || isIndex r)
-            (λ _. andThen nexts (λ _. bind (second-on (x .from) r) λ q. known λ i. returns (some q) (λ k s h. (i, on-less (le-trans (g .later) (g .sound .ordered)) (le-refl 0) h))))
-            (λ _. refuses _)
+          (λ _. andThen nexts (λ _. bind (second-on (x .from) r) λ q. known λ i. returns (some q) (λ k s h. (i, on-less (le-trans (g .later) (g .sound .ordered)) (le-refl 0) h))))
+          (λ _. refuses _)
 
       displacement-on : {b c : ℕ} → Triple (Checks n) (On b c (C 0)) displacement (λ d k s. (d ≤ 1) × On b 0 (C d) k s)
       unfolding displacement
@@ -447,9 +462,9 @@ module _ (n hi p0 : ℕ) (rest : List Lexeme) where
         where
           coded : {b : ℕ} (e : Option ℕ) → Coded e → (t : ℕ) → f ≤ t → t ≤ n → Triple (Checks n) (On b 0 (C has)) (maybe e (if eqb has 0 then (refuse (at 32 f t)) else (write (OD f t size segment))) (λ m. write (OX f t m has size segment))) (λ _. On b 0 D)
           coded none q t j l = whether (eqb has 0) (λ _. refuses _) (λ o. checks _ refl tt
-            (rw (span-true (C has) f t (ctx .places has) u j l, le-leb size 2 z, le-leb segment 4 g) (ap (λ (m : ℕ). toOperand 1 (C m)) (one-has has h o) ∙ single)))
+              (rw (span-true (C has) f t (ctx .places has) u j l, le-leb size 2 z, le-leb segment 4 g) (ap (λ (m : ℕ). toOperand 1 (C m)) (one-has has h o) ∙ single)))
           coded (some m) q t j l = checks _ refl tt
-            (rw (span-true (C has) f t (ctx .places has) u j l, lt-ltb m 8 q, le-leb has 1 h, le-leb size 2 z, le-leb segment 4 g) (operand-of has h))
+              (rw (span-true (C has) f t (ctx .places has) u j l, lt-ltb m 8 q, le-leb has 1 h, le-leb size 2 z, le-leb segment 4 g) (operand-of has h))
 
       override-on : {b c : ℕ} → Triple (Checks n) (On b c (C 0)) override (λ z k s. (z ≤ 4) × On b 0 (C 0) k s)
       unfolding override
@@ -461,25 +476,24 @@ module _ (n hi p0 : ℕ) (rest : List Lexeme) where
       memory-on size z = aheadThen λ x f. behind (λ _ k s h. on-less (f .soon) (le-refl 0) h) (andThen nexts (λ _. kindThen _ λ y g. whether (isWord (y .kind))
           (λ _. bind override-on λ o. known λ i. bind registersAhead-on λ e. known λ q. bind displacement-on λ d. known λ j. close-on (x .from) size o e d (f .start) (f .sound .ordered) z i q j)
           (λ _. whether (isNumber (y .kind))
-            (λ _. behind (λ _ k s h. on-less (le-trans (g .later) (g .sound .ordered)) (le-refl 0) h) (andThen (expression-on 0)
-              (λ _. close-on (x .from) size 0 none 1 (f .start) (omega (arith, f .sound .ordered, g .later, g .sound .ordered)) z zero-le tt (le-refl 1))))
-            (λ _. here-fails 24))))
+          (λ _. behind (λ _ k s h. on-less (le-trans (g .later) (g .sound .ordered)) (le-refl 0) h) (andThen (expression-on 0)
+          (λ _. close-on (x .from) size 0 none 1 (f .start) (omega (arith, f .sound .ordered, g .later, g .sound .ordered)) z zero-le tt (le-refl 1))))
+          (λ _. here-fails 24))))
 
       operandSized-on : {b c : ℕ} (m size : ℕ) → size ≤ 2 → Triple (Checks n) (On b c (C 0)) (operandSized m size) (λ _. On c 0 D)
       unfolding operandSized checked statementFrom given
       operandSized-on zero size z = immediate-on
       operandSized-on (suc m) size z = aheadThen λ x f. behind (λ _ k s h. on-less (f .soon) (le-refl 0) h) (whether (isMark "[" (x .kind)) (λ _. memory-on size z)
           (λ _. perhaps (nameIn registers (x .kind)) (perhaps (nameIn segments (x .kind)) (perhaps (nameIn sizes (x .kind)) immediate-on
-            (λ q e. andThen nexts (λ _. from-low (operandSized-on m (suc q) (size-small (x .kind) q e)))))
-            (λ q e. andThen nexts (λ _. checks _ refl tt
-              (rw (span-true (C 0) (x .from) (x .to) (ctx .places 0) (f .start) (f .sound .ordered) (f .inside), lt-ltb q 4 (segment-small (x .kind) q e)) lone))))
-            (λ q e. andThen nexts (λ _. checks _ refl tt
-              (rw (span-true (C 0) (x .from) (x .to) (ctx .places 0) (f .start) (f .sound .ordered) (f .inside), lt-ltb q 16 (register-small (x .kind) q e)) lone)))))
+          (λ q e. andThen nexts (λ _. from-low (operandSized-on m (suc q) (size-small (x .kind) q e)))))
+          (λ q e. andThen nexts (λ _. checks _ refl tt
+          (rw (span-true (C 0) (x .from) (x .to) (ctx .places 0) (f .start) (f .sound .ordered) (f .inside), lt-ltb q 4 (segment-small (x .kind) q e)) lone))))
+          (λ q e. andThen nexts (λ _. checks _ refl tt
+          (rw (span-true (C 0) (x .from) (x .to) (ctx .places 0) (f .start) (f .sound .ordered) (f .inside), lt-ltb q 16 (register-small (x .kind) q e)) lone)))))
 
       pub operand-on : {b c : ℕ} → Triple (Checks n) (On b c (C 0)) operand (λ _. On c 0 D)
       unfolding operand
       operand-on = askLeft λ m. operandSized-on (suc m) 0 zero-le
-
 
   -- The operands of an instruction, past b, with e expressions below.
   pub operands-on : {b c : ℕ} (e : ℕ) → p0 ≤ b → Triple (Checks n) (On b c (open′ p0 e 0 0)) operands (λ o k s. Counted n p0 o × On b 0 (open′ p0 e (o .count) 0) k s)
@@ -487,13 +501,15 @@ module _ (n hi p0 : ℕ) (rest : List Lexeme) where
   operands-on {b} e u = aheadThen λ x f. passedThen λ l j i. whether (isLineEnd (x .kind))
       (λ _. returns (record { count = 0; from = l; to = l }) (λ k s h. (record { few = zero-le; start = le-trans u j; ordered = le-refl l; inside = i }, on-less (le-refl b) zero-le h)))
       (λ _. andThen (operand-on (first-context p0 e) (operand-first p0 0 e e zero-le (omega arith)) (operand-first p0 1 (suc e) e (omega arith) (omega arith)) (operand-first p0 2 (suc (suc e)) e (omega arith) (omega arith)))
-        (λ _. kindThen _ λ y g. whether (isLineEnd (y .kind))
-          (λ _. passedThen λ t j i. returns (record { count = 1; from = x .from; to = t }) (λ k s h. (record { few = omega arith; start = f .start; ordered = le-trans (f .sound .ordered) j; inside = i }, on-less (le-trans (f .later) (f .sound .ordered)) zero-le h)))
-          (λ _. whether (isMark "," (y .kind))
-            (λ _. andThen nexts (λ _. andThen (from-low (operand-on (second-context p0 e) (operand-second p0 0 e) (operand-second p0 1 e) (operand-second p0 2 e)))
-              (λ _. passedThen λ t j i. returns (record { count = 2; from = x .from; to = t }) (λ k s h. (record { few = omega arith; start = f .start; ordered = omega (arith, f .sound .ordered, g .later, g .sound .ordered); inside = i },
-                on-less (omega (arith, f .later, f .sound .ordered, g .later, g .sound .ordered)) (le-refl 0) h)))))
-            (λ _. here-fails 11))))
+      (λ _. kindThen _ λ y g. whether (isLineEnd (y .kind))
+      (λ _. passedThen λ t j i. returns (record { count = 1; from = x .from; to = t }) (λ k s h. (record { few = omega arith; start = f .start; ordered = le-trans (f .sound .ordered) j; inside = i }, on-less (le-trans (f .later) (f .sound .ordered)) zero-le h)))
+      (λ _. whether (isMark "," (y .kind))
+      (λ _. andThen nexts (λ _. andThen (from-low (operand-on (second-context p0 e) (operand-second p0 0 e) (operand-second p0 1 e) (operand-second p0 2 e)))
+      (λ _. passedThen λ t j i. returns (record { count = 2; from = x .from; to = t }) (λ k s h. (
+        record { few = omega arith; start = f .start; ordered = omega (arith, f .sound .ordered, g .later, g .sound .ordered); inside = i },
+        on-less (omega (arith, f .later, f .sound .ordered, g .later, g .sound .ordered)) (le-refl 0) h,
+      )))))
+      (λ _. here-fails 11))))
 
   -- The bytes of literals: at most four for each of their characters.
   abbrev pub Data : ℕ → Stack → List ℕ → Stack → Line → Type 0

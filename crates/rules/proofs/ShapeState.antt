@@ -51,9 +51,11 @@ module _ (n hi p0 : ℕ) where
   module _ {b c : ℕ} {κ : Stack} where
     at-token : {A : Type 0} {m : Reader State A} {R : A → Stack → State → Type 0} (x : Lexeme) → (Facts n hi p0 b c x → Triple (Checks n) (OnS b (x .to) κ) m R)
         → Triple (Checks n) (λ k s. (s .line .here ≡ x) × OnS b c κ k s) m R
-    at-token x e = record { law = λ k s h.
-        let i : x .to ≤ s .line .here .to = rw (h .0) (le-refl (x .to)) in
-        e (rw (h .0) at (facts n hi p0 (flat (s .below)) b c κ k (s .line) (h .1))) .law k s (record { same = h .1 .same; low = h .1 .low; gap = h .1 .gap; soon = i; chain = h .1 .chain }) }
+    at-token x e = record {
+      law = λ k s h.
+          let i : x .to ≤ s .line .here .to = rw (h .0) (le-refl (x .to)) in
+          e (rw (h .0) at (facts n hi p0 (flat (s .below)) b c κ k (s .line) (h .1))) .law k s (record { same = h .1 .same; low = h .1 .low; gap = h .1 .gap; soon = i; chain = h .1 .chain });
+    }
 
     aheadS : {B : Type 0} {f : Lexeme → Reader State B} {R : B → Stack → State → Type 0} → ((x : Lexeme) → Facts n hi p0 b c x → Triple (Checks n) (OnS b (x .to) κ) (f x) R) → Triple (Checks n) (OnS b c κ) (inLine ahead >>= f) R
     aheadS e = askAheadS λ x. at-token x (e x)
@@ -69,8 +71,13 @@ module _ (n hi p0 : ℕ) where
     unfolding firstOf
     row-on k l r rs h =
         let (lo, i, j) = chain-drop n hi (l .here .to) (l .more) (flat (r ∷ rs)) (h .chain .2) in
-        record { same = h .same; low = le-trans (h .low) (le-trans (h .gap) (le-trans (h .chain .1 .ordered) (le-trans i (j .0)))); gap = le-refl (r .first .from); soon = zero-le;
-          chain = chain-low n hi lo p0 (flat (r ∷ rs)) (le-trans (h .chain .0) (le-trans (h .chain .1 .ordered) i)) j }
+        record {
+          same = h .same;
+          low = le-trans (h .low) (le-trans (h .gap) (le-trans (h .chain .1 .ordered) (le-trans i (j .0))));
+          gap = le-refl (r .first .from);
+          soon = zero-le;
+          chain = chain-low n hi lo p0 (flat (r ∷ rs)) (le-trans (h .chain .0) (le-trans (h .chain .1 .ordered) i)) j;
+        }
 
     stepRow-on : (k : Stack) (l : Line) (rs : List Row) → On n hi p0 (flat rs) b c κ k l → Post (Checks n) (λ _. OnS b 0 κ) k (stepRow rs (record { line = l; below = rs }))
     unfolding stepRow enter
@@ -114,11 +121,15 @@ module _ (n hi p0 : ℕ) where
     unfolding instruction checked statementFrom given
     instruction-on e op h = whether (eqb op rep || eqb op repne)
         (λ _. behind (λ _ k s q. on-less n hi p0 (flat (s .below)) (le-refl (x .to)) zero-le q) (passedOn λ t j l. checksS {κ′ = shut p0 e} _ refl tt
-          (rw (span-true n hi p0 [] (open′ p0 e 0 0) (x .from) t (place-open p0 e) u (le-trans v j) l, span-true n hi p0 [] (open′ p0 e 0 0) t t (place-open p0 e) (le-trans u (le-trans v j)) (le-refl t) l, lt-ltb op 99 h) (to-line p0 0 0 e e zero-le (omega arith)))))
+        (rw (span-true n hi p0 [] (open′ p0 e 0 0) (x .from) t (place-open p0 e) u (le-trans v j) l, span-true n hi p0 [] (open′ p0 e 0 0) t t (place-open p0 e) (le-trans u (le-trans v j)) (le-refl t) l, lt-ltb op 99 h) (to-line p0 0 0 e e zero-le (omega arith)))))
         (λ _. bind (inLines (λ rs. On n hi p0 (flat rs) (x .to) _ (open′ p0 e 0 0)) (λ rs o k s. Counted n p0 o × On n hi p0 (flat rs) (x .to) 0 (open′ p0 e (o .count) 0) k s) (λ rs. operands-on n hi p0 (flat rs) e (le-trans u v))) λ o. known λ q. passedOn λ t j l. andThen lineEnd-on (λ _.
-          checksS {κ′ = shut p0 e} _ refl tt
-          (rw (span-true n hi p0 [] (open′ p0 e (o .count) 0) (x .from) t (place-any e (o .count)) u (le-trans v j) l, span-true n hi p0 [] (open′ p0 e (o .count) 0) (o .from) (o .to) (place-any e (o .count)) (q .start) (q .ordered) (q .inside),
-            lt-ltb op 99 h, le-leb (o .count) 2 (q .few)) (to-line p0 0 (o .count) e e zero-le (omega arith)))))
+        checksS {κ′ = shut p0 e} _ refl tt
+        (rw (
+          span-true n hi p0 [] (open′ p0 e (o .count) 0) (x .from) t (place-any e (o .count)) u (le-trans v j) l,
+          span-true n hi p0 [] (open′ p0 e (o .count) 0) (o .from) (o .to) (place-any e (o .count)) (q .start) (q .ordered) (q .inside),
+          lt-ltb op 99 h,
+          le-leb (o .count) 2 (q .few),
+        ) (to-line p0 0 (o .count) e e zero-le (omega arith)))))
 
     constant-on : {c : ℕ} (e : ℕ) → Triple (Checks n) (OnS (x .to) c (open′ p0 e 0 0)) (constant x) (λ _. OnS (x .to) 0 (shut p0 e))
     unfolding constant checked statementFrom
@@ -129,12 +140,12 @@ module _ (n hi p0 : ℕ) where
     unfolding someData checked statementFrom given
     someData-on e [] = refuses _
     someData-on e (d ∷ ds) = askPassedS λ t. derive {F = (x .to ≤ t) × (t ≤ n) × (length (d ∷ ds) ≤ 4 * t)} (λ k s h.
-          let (a, b) = between n hi p0 (flat (s .below)) k (s .line) (h .0, h .1 .1) in
-          let m : length (d ∷ ds) + 4 * x .to ≤ 4 * s .line .last = h .1 .0 in
-          let l : s .line .last ≡ t = h .0 in
-          (a, b, omega arith))
+        let (a, b) = between n hi p0 (flat (s .below)) k (s .line) (h .0, h .1 .1) in
+        let m : length (d ∷ ds) + 4 * x .to ≤ 4 * s .line .last = h .1 .0 in
+        let l : s .line .last ≡ t = h .0 in
+        (a, b, omega arith))
         (λ g. before (λ k s h. h .1 .1) (andThen lineEnd-on (λ _. checksS {κ′ = shut p0 e} _ refl (g .2)
-          (rw (span-true n hi p0 [] (open′ p0 e 0 0) (x .from) t (place-open p0 e) u (le-trans v (g .0)) (g .1), lt-ltb 0 (suc (length ds)) (omega arith)) (to-line p0 0 0 e e zero-le (omega arith))))))
+        (rw (span-true n hi p0 [] (open′ p0 e 0 0) (x .from) t (place-open p0 e) u (le-trans v (g .0)) (g .1), lt-ltb 0 (suc (length ds)) (omega arith)) (to-line p0 0 0 e e zero-le (omega arith))))))
 
     dataOf-on : {c : ℕ} (e width : ℕ) → Triple (Checks n) (OnS (x .to) c (open′ p0 e 0 0)) (dataOf x width) (λ _. OnS (x .to) 0 (shut p0 e))
     unfolding dataOf
@@ -151,9 +162,9 @@ module _ (n hi p0 : ℕ) where
       unfolding line
       line-on e = aheadS λ x f. behind (λ _ k s h. on-less n hi p0 (flat (s .below)) (f .soon) (le-refl 0) h) (perhaps (operationIn table (x .kind))
           (perhaps (nameIn directives (x .kind))
-            (whether (isWord (x .kind)) (λ _. passing-on (inOn (λ rest. label-on n hi p0 rest e x (f .start) (f .sound .ordered) (f .inside)))) (λ _. here-failsS 20))
-            λ d _. whether (eqb d 0) (λ _. passing-on (constant-on x (f .start) (f .sound .ordered) (f .inside) e))
-              (λ _. whether (ltb d 3) (λ _. passing-on (dataOf-on x (f .start) (f .sound .ordered) (f .inside) e d)) (λ _. nested _ _ e)))
+          (whether (isWord (x .kind)) (λ _. passing-on (inOn (λ rest. label-on n hi p0 rest e x (f .start) (f .sound .ordered) (f .inside)))) (λ _. here-failsS 20))
+          λ d _. whether (eqb d 0) (λ _. passing-on (constant-on x (f .start) (f .sound .ordered) (f .inside) e))
+          (λ _. whether (ltb d 3) (λ _. passing-on (dataOf-on x (f .start) (f .sound .ordered) (f .inside) e d)) (λ _. nested _ _ e)))
           λ op h. passing-on (instruction-on x (f .start) (f .sound .ordered) (f .inside) e op (operation-small table proper (x .kind) op h)))
 
       content-on : {b : ℕ} (e : ℕ) (x : Lexeme) → Triple (Checks n) (OnS b 0 (open′ p0 (suc e) 0 0)) (content table times′ x) (λ _. OnS b 0 (shut p0 e))
@@ -229,13 +240,13 @@ module _ (n hi : ℕ) where
         go : (o : Bool) → isLineEnd (s .line .here .kind) ≡ o → Stated lo κ (if_then_else_ {A = Reader State Bool} o (return false) (write (ST (s .line .here .from)) >> line table (times table 16) >> return true) s)
         go true e = ended
         go false e =
-          let x : Lexeme = s .line .here in
-          let f : Facts n hi 0 lo 0 x = facts n hi 0 (flat (s .below)) lo 0 κ κ (s .line) h in
-          let (i, j) = f .sound .strict e in
-          started lo (x .from) (x .to) κ (open′ (x .from) 0 0 0) (f .later) (le-trans i j) i
+            let x : Lexeme = s .line .here in
+            let f : Facts n hi 0 lo 0 x = facts n hi 0 (flat (s .below)) lo 0 κ κ (s .line) h in
+            let (i, j) = f .sound .strict e in
+            started lo (x .from) (x .to) κ (open′ (x .from) 0 0 0) (f .later) (le-trans i j) i
             (starts κ (x .from) (y .done′) (le-trans (y .from′) (f .later)) (le-trans (f .sound .ordered) (f .inside)))
             (line-on n hi (x .from) table proper (times-on n hi (x .from) table proper 16) {b = 0} {c = x .to} 0 .law (open′ (x .from) 0 0 0) s
-              (record { same = refl; low = zero-le; gap = h .gap; soon = le-refl (x .to); chain = (le-refl (x .from), h .chain .1, h .chain .2) }))
+            (record { same = refl; low = zero-le; gap = h .gap; soon = le-refl (x .to); chain = (le-refl (x .from), h .chain .1, h .chain .2) }))
 
     skips-stated : (lo : ℕ) (κ : Stack) → Ready lo κ → {p : Answer State (Unit {0})} → Skips lo κ p → Stated lo κ (thence p (λ _. begun table))
     unfolding thence

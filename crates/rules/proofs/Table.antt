@@ -45,8 +45,8 @@ proper-from (suc n) w table r p h =
         → _≡_ {A = Option ℕ} (if o then (some (getD table 7 0)) else (operationFrom n w (drop 8 table))) (some r)
         → (operationFrom n w (drop 8 table) ≡ some r → (r < 99) × (2 ≤ length w)) → (r < 99) × (2 ≤ length w)
     go a b true e i again =
-      let z : getD table 7 0 ≡ r = cc in
-      (omega (arith, ltb-true (getD table 7 0) 99 a), omega (arith, leb-true 2 (length (spelling table)) b, same-length w (spelling table) e))
+        let z : getD table 7 0 ≡ r = cc in
+        (omega (arith, ltb-true (getD table 7 0) 99 a), omega (arith, leb-true 2 (length (spelling table)) b, same-length w (spelling table) e))
     go a b false e i again = again i
 
 proper-rows : properRows 117 operations ≡ true
@@ -57,4 +57,5 @@ pub proper : Proper operations
 unfolding operationNamed
 proper = record {
   small = λ w r h. proper-from 117 (map lower w) operations r proper-rows h .0;
-  long = λ w r h. omega (arith, proper-from 117 (map lower w) operations r proper-rows h .1, length-map w lower) }
+  long = λ w r h. omega (arith, proper-from 117 (map lower w) operations r proper-rows h .1, length-map w lower);
+}
