@@ -1,21 +1,20 @@
 -- APPEND. Rows read alone, beside the same rows with further rows `b ∷ bs` behind them. Where the first reading lacks a content (34), the second has it from the further rows.
 use mathlib.Core.Path.{_≡_, refl, sym, ap, _∙_}
 use mathlib.Core.Bool.{Bool, true, false, _||_, true≢false, false≢true}
-use mathlib.Core.List.{List, [], _∷_, _++_, map, append-assoc, append-nil}
+use mathlib.Core.List.{List, [], _∷_, _++_, append-assoc, append-nil}
 use mathlib.Core.Option.{Option, none, some}
-use Prim.Native.Nat.{ℕ, zero, suc, _≤_, _<_}
+use Prim.Native.Nat.{ℕ, zero, suc, _≤_}
 use native.Mathlib.Omega.{arith}
 use lib.Dec.{ltb, eqb}
 use Rattle.lexer.specs.Text.{if_then_else_, maybe}
 use Rattle.rules.specs.Lexemes.{Kind, word, number, quoted, mark, newline, blank, comment, invalid, end, bad, Lexeme, nameIn, operationIn}
 use Rattle.names.specs.Names.{directives}
-use Rattle.rules.specs.Records.{Record, ST, LL, LI, LD, LC, LT}
-use Rattle.rules.specs.Reader.{Refusal, at, nowhere, encoding, Answer, done, refused, Reader, Line, after, thence, _>>=_, _>>_, return, write, refuse, refusedAs, arrive, next, ahead, kind, passed, left, refuseHere, isLineEnd}
-use Rattle.rules.specs.Operands.{isWord, operands}
-use Rattle.rules.specs.Expressions.{expression}
+use Rattle.rules.specs.Records.{Record, ST, LT}
+use Rattle.rules.specs.Reader.{Refusal, at, Answer, done, refused, Reader, Line, after, thence, _>>=_, _>>_, return, write, refuse, refusedAs, arrive, ahead, kind, refuseHere, isLineEnd}
+use Rattle.rules.specs.Operands.{isWord}
 use Rattle.rules.proofs.Move.{Mild, Stays, Gentle, bad-mild, next-mild}
-use Rattle.rules.proofs.Mild.{ahead-mild, kind-mild, passed-mild, left-mild, here-mild, expression-mild, operands-mild, label-mild, literals-mild}
-use Rattle.rules.specs.Statements.{Row, State, over, inLine, firstOf, enter, stepRow, nextRow, lineEnd, skip, skipLines, passing, label, rep, repne, instruction, constant, literals, someData, dataOf, line, content, times, begun, statement, statements}
+use Rattle.rules.proofs.Mild.{ahead-mild, passed-mild, left-mild, here-mild, expression-mild, operands-mild, label-mild, literals-mild}
+use Rattle.rules.specs.Statements.{Row, State, over, inLine, firstOf, enter, stepRow, nextRow, lineEnd, skip, skipLines, passing, rep, repne, instruction, constant, someData, dataOf, line, content, times, begun, statement}
 
 pub after-nil : {S A : Type 0} (p : Answer S A) → after [] p ≡ p
 unfolding after
@@ -438,9 +437,6 @@ module _ (table : List ℕ) where
     follows-after v (same m) = same m
     follows-after v (late w {q} p c) = rw (after-after v w q) (late (v ++ w) p c)
 
-    zero-one : _≡_ {A = ℕ} 0 1 → ⊥
-    zero-one h = omega arith
-
     halt : (n : ℕ) {q : Answer State (Unit {0})} → refusedAs (b .first .kind) ≡ some n → Continues (refused (at n (b .first .from) (b .first .to))) q → Begins (b ∷ bs) q
     halt n h Continues.fail = broken h
 
@@ -498,7 +494,7 @@ module _ (table : List ℕ) where
     lockstep (Reads.go z g) o r = go-case (statement-next o) z g (λ t q o′ r′. lockstep g o′ r′) (continues r)
 
     none-some : (n : ℕ) → _≡_ {A = Option ℕ} none (some n) → ⊥
-    none-some n h = let y : _≡_ {A = ℕ} 0 1 = cc in zero-one y
+    none-some n h = true≢false cc
 
     pub follows : {r : Row} (rs : List Row) {p q : Answer State (Unit {0})} → Begins (r ∷ (rs ++ es)) p → Begins (r ∷ (rs ++ (b ∷ bs))) q → Follows p q
     unfolding enter

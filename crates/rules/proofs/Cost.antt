@@ -1,24 +1,24 @@
 -- The listing is at most 18 times its source: each token pays for the records that it brings. `On m`: d bytes are written so far, and m more may be, for the bytes before the token ahead.
-use mathlib.Core.Path.{_≡_, refl, sym, ap, ap₂, subst, _∙_}
-use mathlib.Core.Bool.{Bool, true, false, not, _&&_, _||_, true≢false, false≢true}
-use mathlib.Core.List.{List, [], _∷_, _++_, map, append-assoc, append-nil}
+use mathlib.Core.Path.{_≡_, refl, sym, ap, subst, _∙_}
+use mathlib.Core.Bool.{Bool, true, false, _||_, true≢false, false≢true}
+use mathlib.Core.List.{List, [], _∷_, _++_}
 use mathlib.Core.Option.{Option, none, some}
 use Prim.Native.Nat.{ℕ, zero, suc, _+_, _*_, _-_, _≤_, _<_, zero-le}
 use Prim.Native.Char.{Char}
 use native.Mathlib.Omega.{arith}
-use native.Mathlib.Nat.{le-refl, le-trans}
-use lib.Dec.{eqb, leb, ltb}
+use native.Mathlib.Nat.{le-refl}
+use lib.Dec.{eqb, ltb}
 use lib.ListN.{length, take, length-append, length-take}
-use Rattle.lexer.specs.Text.{if_then_else_, maybe, is, bytes}
+use Rattle.lexer.specs.Text.{if_then_else_, is, bytes}
 use Rattle.rules.specs.Lexemes.{Kind, word, number, quoted, mark, newline, blank, comment, invalid, end, bad, Lexeme, textOf, nameIn}
 use Rattle.names.specs.Names.{registers, segments, sizes}
-use Rattle.rules.specs.Records.{Record, ST, VC, VL, VI, VS, PF, IN, OR, OS, OI, OF, OD, OX, LL, LI, LD, LC, LT, field, fields, encode, listing}
-use Rattle.rules.specs.Reader.{Refusal, at, nowhere, encoding, Answer, done, refused, Reader, Line, after, thence, _>>=_, _>>_, return, write, refuse, orBack, attempt, refusedAs, arrive, step, next, ahead, kind, passed, left, refuseHere, isMark, isLineEnd, expect}
+use Rattle.rules.specs.Records.{Record, field, fields, encode, listing}
+use Rattle.rules.specs.Reader.{at, Reader, Line, thence, _>>=_, _>>_, return, write, step, next, ahead, kind, passed, isMark, isLineEnd, expect}
 use Rattle.rules.specs.Expressions.{operatorOf, leftLevel, rightLevel, prefixLevel, character, atomOf, atom, primary, infixes, expr, expression}
-use Rattle.rules.specs.Operands.{immediateOrFar, alone, isIndex, isBase, paired, plusIndex, second, registersAhead, displacement, close, override, isWord, isNumber, memory, operandSized, operand, Operands, operands}
+use Rattle.rules.specs.Operands.{immediateOrFar, alone, isIndex, isBase, paired, plusIndex, second, registersAhead, displacement, close, override, isWord, isNumber, memory, operandSized, operand, operands}
 use Rattle.rules.specs.Statements.{label, literalOf, literals}
-use Rattle.rules.proofs.Progress.{name-inside, word-inside}
-use Rattle.rules.proofs.Hoare.{Run, nil, cons, Post, holds, fails, Triple, now, after-post, bind, andThen, whether, perhaps, returns, refuses, writes, before, behind, arrive-post, attempts, askAhead, askKind, askPassed, askLeft, here-fails}
+use Rattle.rules.proofs.Progress.{name-inside}
+use Rattle.rules.proofs.Hoare.{Run, nil, cons, Post, holds, Triple, now, after-post, bind, andThen, whether, perhaps, returns, refuses, writes, before, behind, arrive-post, attempts, askAhead, askKind, askPassed, askLeft, here-fails}
 use Rattle.rules.proofs.Shape.{Holds, Sound, Chain, chain-low}
 
 abbrev pub weight : List Record → ℕ
@@ -110,10 +110,6 @@ module _ (n hi D : ℕ) (rest : List Lexeme) where
     pub aheadHere : {B : Type 0} (f : Lexeme → Reader Line B) {R : B → ℕ → Line → Type 0} (x : Lexeme) → Triple Writes (Here x m) (f x) R → Triple Writes (Here x m) (ahead >>= f) R
     unfolding ahead _>>=_ thence
     aheadHere f {R} x e = record { law = λ d s h. after-post nil (subst (λ (y : Lexeme). Post Writes R d (f y s)) (sym (h .0)) (e .law d s h)) }
-
-    pub kindHere : {B : Type 0} (f : Kind → Reader Line B) {R : B → ℕ → Line → Type 0} (x : Lexeme) → Triple Writes (Here x m) (f (x .kind)) R → Triple Writes (Here x m) (kind >>= f) R
-    unfolding kind _>>=_ thence
-    kindHere f {R} x e = record { law = λ d s h. after-post nil (subst (λ (y : Lexeme). Post Writes R d (f (y .kind) s)) (sym (h .0)) (e .law d s h)) }
 
     pub pays : (r : Record) (k : ℕ) → length (encode r) ≤ k → Triple Writes (On (m + k)) (write r) (λ _. On m)
     pays r k i = writes r λ d s h. (d + length (encode r), record { sum = refl }, record { paid = omega (arith, h .paid); chain = h .chain; spaced = h .spaced })

@@ -1,7 +1,7 @@
 -- A logic of readers. Each record that is written takes something that no reader sees one step on: the stack that the listing's check keeps,
 -- the number of bytes written. `Triple Step P m Q`: from P, m's records lead to Q, or m refuses. It is closed under what readers are made
 -- of, so each reader's proof follows its text.
-use mathlib.Core.Path.{_≡_, refl, sym, subst}
+use mathlib.Core.Path.{_≡_, refl}
 use mathlib.Core.Bool.{Bool, true, false}
 use mathlib.Core.List.{List, [], _∷_, _++_}
 use mathlib.Core.Option.{Option, none, some}

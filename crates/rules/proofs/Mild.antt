@@ -1,11 +1,10 @@
 -- What is read within a line is never refused with 34, so that it doesn't depend on the lines below: what rides along with moving.
-use mathlib.Core.Path.{_≡_, refl}
-use mathlib.Core.Bool.{Bool, true, false}
-use mathlib.Core.List.{List}
+use mathlib.Core.Path.{_≡_}
+use mathlib.Core.Bool.{false}
 use Prim.Native.Nat.{ℕ}
 use lib.Dec.{eqb}
 use Rattle.rules.specs.Lexemes.{Lexeme}
-use Rattle.rules.specs.Reader.{Reader, Line, ahead, kind, passed, left, refuseHere}
+use Rattle.rules.specs.Reader.{ahead, kind, passed, left, refuseHere}
 use Rattle.rules.specs.Operands.{operands}
 use Rattle.rules.specs.Expressions.{expression}
 use Rattle.rules.specs.Statements.{label, literals}

@@ -1,17 +1,17 @@
 -- Moving: what a reader does with tokens whose places are moved is what it does with the tokens, moved, since no rule computes with a place.
 -- `Moves` says so for a map of states, records and refusals. In the same walk through the readers rides that a property P of states is
 -- kept and that each refusal is one of M. All three are closed under what readers are made of, so each reader's proof follows its text.
-use mathlib.Core.Path.{_≡_, refl, sym, ap, ap₂, _∙_}
+use mathlib.Core.Path.{_≡_, refl, sym, ap, _∙_}
 use mathlib.Core.Bool.{Bool, true, false, _||_}
 use mathlib.Core.List.{List, [], _∷_, _++_, map}
 use mathlib.Core.Option.{Option, none, some}
 use Prim.Native.Nat.{ℕ, zero, suc}
 use Prim.Native.Char.{Char}
 use lib.Dec.{ltb, eqb}
-use lib.ListN.{length, length-map}
+use lib.ListN.{length-map}
 use Rattle.lexer.specs.Text.{if_then_else_, maybe, is}
 use Rattle.rules.specs.Lexemes.{Kind, word, number, quoted, mark, newline, blank, comment, invalid, end, bad, Lexeme, nameIn}
-use Rattle.rules.specs.Records.{Record, ST, VC, VL, VI, VS, PF, IN, OR, OS, OI, OF, OD, OX, LL, LI, LD, LC, LT, moveRecord}
+use Rattle.rules.specs.Records.{Record, moveRecord}
 use Rattle.rules.specs.Reader.{Refusal, at, nowhere, encoding, Answer, done, refused, Reader, Line, after, thence, _>>=_, _>>_, return, write, refuse, orBack, attempt, refusedAs, arrive, step, next, ahead, kind, passed, left, refuseHere, isMark, isLineEnd, expect}
 use Rattle.names.specs.Names.{registers, segments, sizes}
 use Rattle.rules.specs.Operands.{immediateOrFar, alone, isIndex, isBase, paired, plusIndex, second, registersAhead, displacement, close, override, isWord, isNumber, memory, operandSized, operand, Operands, operands}

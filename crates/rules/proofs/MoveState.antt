@@ -1,20 +1,17 @@
 -- SHIFT for statements and the full read.
-use mathlib.Core.Path.{_≡_, refl, sym, ap, ap₂, _∙_}
+use mathlib.Core.Path.{_≡_, refl, ap, _∙_}
 use mathlib.Core.Bool.{Bool, true, false, _||_}
 use mathlib.Core.List.{List, [], _∷_, _++_, map}
-use mathlib.Core.Option.{Option, none, some}
 use Prim.Native.Nat.{ℕ, zero, suc}
-use Prim.Native.Char.{Char}
 use lib.Dec.{ltb, eqb}
-use lib.ListN.{length, length-map, take}
-use Rattle.lexer.specs.Text.{if_then_else_, maybe, is}
+use lib.ListN.{take}
+use Rattle.lexer.specs.Text.{if_then_else_, is}
 use Rattle.rules.specs.Lexemes.{Kind, word, number, quoted, mark, newline, blank, comment, invalid, end, bad, Lexeme, nameIn, operationIn}
 use Rattle.names.specs.Names.{directives}
-use Rattle.rules.specs.Records.{Record, ST, LL, LI, LD, LC, LT, field, moveRecord}
-use Rattle.rules.specs.Reader.{Refusal, at, nowhere, encoding, Answer, done, refused, Reader, Line, after, thence, _>>=_, _>>_, return, write, refuse, refusedAs, arrive, next, ahead, kind, passed, left, refuseHere, isMark, isLineEnd, expect}
-use Rattle.rules.specs.Operands.{isWord, Operands, operands}
-use Rattle.rules.specs.Expressions.{expression}
-use Rattle.rules.specs.Statements.{Row, State, over, inLine, firstOf, enter, stepRow, nextRow, lineEnd, skip, skipLines, passing, label, rep, repne, instruction, constant, literalOf, literals, someData, dataOf, line, content, times, begun, statement, statements, readRows}
+use Rattle.rules.specs.Records.{field, moveRecord}
+use Rattle.rules.specs.Reader.{Answer, done, refused, Reader, Line, arrive, next, isMark, isLineEnd}
+use Rattle.rules.specs.Operands.{isWord}
+use Rattle.rules.specs.Statements.{Row, State, over, inLine, firstOf, enter, stepRow, nextRow, lineEnd, skip, skipLines, passing, label, rep, repne, instruction, constant, literalOf, literals, someData, dataOf, line, content, times, begun, statement}
 use Rattle.rules.proofs.Move.{Mild, Any, Stays, arrive-stays, next-mild, same, carry, Moves, bind, andThen, returns, writes, refuses, whether, perhaps, moveToken, moveRefusal, moveLine, Shifts, arrive-moves, next-shifts, ahead-shifts, kind-shifts, passed-shifts, left-shifts, here-shifts, expression-shifts, moveOperands, operands-shifts}
 
 module _ (f : ℕ → ℕ) where
@@ -171,8 +168,3 @@ module _ (f : ℕ → ℕ) (P : State → Type 0)
     pub statement-shifts : ShiftsState f P same (statement table) (statement table)
     unfolding statement
     statement-shifts = andThen skipLines-shifts begun-shifts
-
-    pub statements-shifts : (n : ℕ) → ShiftsState f P same (statements table n) (statements table n)
-    unfolding statements
-    statements-shifts zero = returns same tt
-    statements-shifts (suc n) = bind _ statement-shifts λ b. whether b (statements-shifts n) (returns same tt)

@@ -1,23 +1,22 @@
 -- Every statement read moves forward, so that the fuel of the full read is enough.
-use mathlib.Core.Path.{_≡_, refl, sym, ap, _∙_}
+use mathlib.Core.Path.{_≡_, refl, sym, _∙_}
 use mathlib.Core.Bool.{Bool, true, false, true≢false, false≢true}
-use mathlib.Core.List.{List, [], _∷_, _++_, append-nil}
+use mathlib.Core.List.{List, [], _∷_, append-nil}
 use mathlib.Core.Option.{Option, none, some}
 use Prim.Native.String.{String}
-use Prim.Native.Nat.{ℕ, zero, suc, _+_, _≤_, _<_}
+use Prim.Native.Nat.{ℕ, zero, suc, _+_, _≤_}
 use native.Mathlib.Omega.{arith}
-use native.Mathlib.Nat.{le-refl}
 use lib.Dec.{eqb, ltb}
 use lib.ListN.{length}
 use Rattle.lexer.specs.Text.{if_then_else_, maybe}
 use Rattle.rules.specs.Lexemes.{Kind, word, number, quoted, mark, newline, blank, comment, invalid, end, bad, Lexeme, textOf, nameIn, operationIn}
 use Rattle.names.specs.Names.{directives, named, operationNamed}
 use Rattle.rules.specs.Records.{Record, ST}
-use Rattle.rules.specs.Reader.{Refusal, at, Answer, done, refused, Reader, Line, after, thence, _>>=_, _>>_, return, write, refusedAs, arrive, step, next, ahead, refuseHere, isLineEnd}
+use Rattle.rules.specs.Reader.{at, Answer, done, refused, Reader, Line, after, thence, _>>=_, _>>_, return, write, refusedAs, arrive, step, next, ahead, refuseHere, isLineEnd}
 use Rattle.rules.specs.Operands.{isWord}
-use Rattle.rules.specs.Statements.{Row, State, over, inLine, firstOf, enter, skipLines, passing, label, instruction, constant, dataOf, line, content, times, begun, statement, statements}
-use Rattle.rules.proofs.Move.{Mild, Any, Stays, arrive-stays, bad-mild, same, Moves, andThen, after-stays, thence-stays, next-shifts, expression-shifts}
-use Rattle.rules.proofs.MoveState.{ShiftsState, skipLines-shifts, inLines, label-shifts, instruction-shifts, constant-shifts, dataOf-shifts, content-shifts, times-shifts}
+use Rattle.rules.specs.Statements.{Row, State, over, inLine, firstOf, enter, skipLines, passing, label, instruction, constant, dataOf, line, times, begun, statement, statements}
+use Rattle.rules.proofs.Move.{Mild, Any, Stays, arrive-stays, bad-mild, same, andThen, after-stays, thence-stays, expression-shifts}
+use Rattle.rules.proofs.MoveState.{skipLines-shifts, inLines, label-shifts, instruction-shifts, constant-shifts, dataOf-shifts, content-shifts, times-shifts}
 use Rattle.rules.proofs.Append.{Reads, stop, fail, go}
 
 abbrev pub Ended : Lexeme → List Lexeme → Type 0
@@ -223,7 +222,3 @@ module _ (table : List ℕ) where
       let c : t′ ≡ t = cc in
       let i : p ≡ p′ = only r (rw c at r′) in
       cc
-
-  -- So an equation: with more fuel than tokens left, whatever is read is what `statements` gives.
-  pub statements-reads : (n : ℕ) (s : State) → Below n s → {p : Answer State (Unit {0})} → Reads table s p → statements table (suc n) s ≡ p
-  statements-reads n s h r = only (enough n s h) r

@@ -1,29 +1,29 @@
 -- The listing that is read is well-formed: its records, one by one, take the stack of the listing's check on, and the tokens' places rise, so
 -- that every span is in range.
-use mathlib.Core.Path.{_≡_, refl, sym, ap, ap₂, _∙_}
-use mathlib.Core.Bool.{Bool, true, false, not, _&&_, _||_, true≢false, false≢true}
-use mathlib.Core.List.{List, [], _∷_, _++_, map, append-assoc, append-nil}
+use mathlib.Core.Path.{_≡_, refl, sym, ap, _∙_}
+use mathlib.Core.Bool.{Bool, true, false, _&&_, _||_, true≢false}
+use mathlib.Core.List.{List, [], _∷_, _++_}
 use mathlib.Core.Option.{Option, none, some}
 use Prim.Native.Nat.{ℕ, zero, suc, _+_, _*_, _-_, _≤_, _<_, zero-le}
 use Prim.Native.Char.{Char}
 use Prim.Native.String.{String}
 use native.Mathlib.Omega.{arith}
 use native.Mathlib.Nat.{le-refl, le-trans}
-use lib.Dec.{eqb, leb, ltb}
+use lib.Dec.{eqb, ltb}
 use lib.ListN.{length, take, drop, length-append, length-take, take-append-drop}
-use borrow.Author.Tests.{le-leb, lt-ltb, le-ltb, ne-eqb, eq-eqb, ltb-true}
+use borrow.Author.Tests.{le-leb, lt-ltb, eq-eqb}
 use Rattle.lexer.specs.Text.{if_then_else_, maybe, is, bytes, same}
 use Rattle.rules.specs.Lexemes.{Kind, word, number, quoted, mark, newline, blank, comment, invalid, end, bad, Lexeme, textOf, nameIn, operationIn}
-use Rattle.names.specs.Names.{registers, segments, sizes, directives, named, operationNamed, placeFrom}
+use Rattle.names.specs.Names.{registers, segments, sizes, named, operationNamed, placeFrom}
 use Rattle.rules.specs.Records.{Record, ST, VC, VL, VI, VS, PF, IN, OR, OS, OI, OF, OD, OX, LL, LI, LD, LC, LT, field}
-use Rattle.rules.specs.Reader.{Refusal, at, nowhere, encoding, Answer, done, refused, Reader, Line, after, thence, _>>=_, _>>_, return, write, refuse, orBack, attempt, refusedAs, arrive, step, next, ahead, kind, passed, left, refuseHere, isMark, isLineEnd, expect}
+use Rattle.rules.specs.Reader.{at, Reader, Line, _>>=_, _>>_, return, write, refuse, step, next, ahead, kind, passed, isMark, isLineEnd, expect}
 use Rattle.rules.specs.Expressions.{operatorOf, leftLevel, rightLevel, prefixLevel, character, atomOf, atom, primary, infixes, expr, expression}
 use Rattle.rules.specs.Operands.{immediateOrFar, alone, isIndex, isBase, paired, plusIndex, second, registersAhead, displacement, close, override, isWord, isNumber, memory, operandSized, operand, Operands, operands}
 use Rattle.rules.specs.Statements.{label, literalOf, literals}
-use Rattle.rules.specs.WellFormed.{Stack, stack, allow, toExpression, toOperand, toLine, complete, spans, given, checked, checkedAll}
+use Rattle.rules.specs.WellFormed.{Stack, stack, allow, toExpression, toOperand, toLine, spans, given, checked}
 use Rattle.rules.specs.Patch.{statementFrom}
 use Rattle.rules.proofs.Table.{Proper}
-use Rattle.rules.proofs.Hoare.{Run, nil, cons, Post, holds, fails, Triple, bind, andThen, whether, perhaps, returns, refuses, writes, before, behind, known, derive, arrive-post, attempts, askAhead, askKind, askPassed, askLeft, here-fails}
+use Rattle.rules.proofs.Hoare.{nil, Post, holds, Triple, bind, andThen, whether, perhaps, returns, refuses, writes, before, behind, known, derive, arrive-post, attempts, askAhead, askKind, askPassed, askLeft, here-fails}
 
 -- What a record holds besides what the check tests.
 abbrev pub Extra : Record → Type 0
@@ -154,10 +154,6 @@ size-small k r h = name-small sizes k r h
 pub operation-small : (table : List ℕ) → Proper table → (k : Kind) (r : ℕ) → operationIn table k ≡ some r → r < 99
 unfolding operationIn
 operation-small table p k r h = let (w, e, i) = asked k (operationNamed table) r h in p .small w r i
-
-pub directive-small : (k : Kind) (r : ℕ) → nameIn directives k ≡ some r → r < 4
-unfolding directives
-directive-small k r h = name-small directives k r h
 
 alone-small : (r : ℕ) → alone r < 8
 unfolding alone

@@ -1,12 +1,11 @@
 -- Document 01's samples of the rules, "Job file samples": K1 to K12 in one table with one claim, and the further ones.
 use mathlib.Core.Path.{_≡_, refl}
-use mathlib.Core.List.{List, [], _∷_, map}
-use Prim.Native.Nat.{ℕ}
+use mathlib.Core.List.{List, [], _∷_}
 use Prim.Native.String.{String}
 use Rattle.lexer.specs.Text.{bytes}
 use Rattle.names.specs.Table.{operations, spellings, row, rowsOf}
-use Rattle.rules.specs.Records.{Record, ST, VC, VL, VI, VS, PF, IN, OR, OS, OI, OF, OD, OX, LL, LI, LD, LC, LT}
-use Rattle.rules.specs.Reader.{Refusal, at, nowhere, encoding}
+use Rattle.rules.specs.Records.{ST, VC, VL, VS, PF, IN, OR, OI, OF, OX, LL, LI, LD, LC, LT}
+use Rattle.rules.specs.Reader.{at, nowhere, encoding}
 use Rattle.rules.specs.Statements.{Outcome, accepted, refusal, fullRead, openStatements}
 
 pub record Sample : Type 0 where

@@ -1,14 +1,13 @@
 -- Operands. Document 01, "Operands and statements".
 use mathlib.Core.Bool.{Bool, true, false, _||_}
-use mathlib.Core.List.{List, [], _∷_}
 use mathlib.Core.Option.{Option, none, some}
 use Prim.Native.Nat.{ℕ, zero, suc, _+_}
-use lib.Dec.{eqb, ltb}
-use Rattle.lexer.specs.Text.{if_then_else_, maybe, is}
-use Rattle.rules.specs.Lexemes.{Kind, word, number, quoted, mark, newline, blank, comment, invalid, end, bad, Lexeme, textOf, nameIn}
+use lib.Dec.{eqb}
+use Rattle.lexer.specs.Text.{if_then_else_, maybe}
+use Rattle.rules.specs.Lexemes.{Kind, word, number, quoted, mark, newline, blank, comment, invalid, end, bad, textOf, nameIn}
 use Rattle.names.specs.Names.{registers, segments, sizes}
-use Rattle.rules.specs.Records.{Record, OR, OS, OI, OF, OD, OX}
-use Rattle.rules.specs.Reader.{Reader, Line, Refusal, at, nowhere, encoding, _>>=_, _>>_, return, write, refuse, attempt, next, ahead, kind, passed, left, refuseHere, isMark, isLineEnd, expect}
+use Rattle.rules.specs.Records.{OR, OS, OI, OF, OD, OX}
+use Rattle.rules.specs.Reader.{Reader, Line, at, encoding, _>>=_, _>>_, return, write, refuse, attempt, next, ahead, kind, passed, left, refuseHere, isMark, isLineEnd, expect}
 use Rattle.rules.specs.Expressions.{expression, openExpressions}
 
 -- An immediate is an expression; `a:b` is far.

@@ -1,7 +1,6 @@
 -- Statements, and the reading of a source. Document 01, "Operands and statements".
 use mathlib.Core.Bool.{Bool, true, false, _||_}
 use mathlib.Core.List.{List, [], _∷_, _++_}
-use mathlib.Core.Option.{Option, none, some}
 use Prim.Native.Nat.{ℕ, zero, suc, _+_}
 use lib.Dec.{eqb, ltb}
 use lib.ListN.{length, take}
@@ -9,7 +8,7 @@ use Rattle.lexer.specs.Text.{if_then_else_, maybe, is}
 use Rattle.rules.specs.Lexemes.{Kind, word, number, quoted, mark, newline, blank, comment, invalid, end, bad, Lexeme, tokensFrom, nameIn, operationIn}
 use Rattle.names.specs.Names.{directives}
 use Rattle.rules.specs.Records.{Record, ST, LL, LI, LD, LC, LT, field, openRecords}
-use Rattle.rules.specs.Reader.{Reader, Answer, done, refused, after, Line, Refusal, at, nowhere, encoding, _>>=_, _>>_, return, write, refuse, arrive, next, ahead, kind, passed, left, refuseHere, isMark, isLineEnd, expect}
+use Rattle.rules.specs.Reader.{Reader, Answer, done, refused, Line, Refusal, at, nowhere, _>>=_, _>>_, return, write, refuse, arrive, next, ahead, kind, passed, left, refuseHere, isMark, isLineEnd}
 use Rattle.rules.specs.Expressions.{expression}
 use Rattle.rules.specs.Operands.{operands, isWord, openOperands}
 
