@@ -17,7 +17,7 @@ use Rattle.rules.specs.Reader.{at, Reader, Line, thence, _>>=_, _>>_, re
 use Rattle.rules.specs.Expressions.{operatorOf, leftLevel, rightLevel, prefixLevel, character, atomOf, atom, primary, infixes, expr, expression}
 use Rattle.rules.specs.Operands.{immediateOrFar, alone, isIndex, isBase, paired, plusIndex, second, registersAhead, displacement, close, override, isWord, isNumber, memory, operandSized, operand, operands}
 use Rattle.rules.specs.Statements.{label, literalOf, literals}
-use Rattle.rules.proofs.Progress.{name-inside}
+use Rattle.rules.proofs.TokenKinds.{mark-inside, operator-inside, name-inside}
 use Rattle.rules.proofs.Hoare.{Run, nil, cons, Post, holds, Triple, now, after-post, bind, andThen, whether, perhaps, returns, refuses, writes, before, behind, arrive-post, attempts, askAhead, askKind, askPassed, askLeft, here-fails}
 use Rattle.rules.proofs.Shape.{Holds, Sound, Chain, chain-low}
 
@@ -47,32 +47,6 @@ newline-spaced : (p : ℕ) (xs : List Lexeme) → Spaced xs → Spaced (record {
 unfolding isWord textOf
 newline-spaced p [] h = tt
 newline-spaced p (x ∷ xs) h = (λ w. absurd (false≢true w), h)
-
-mark-inside : (a : Char) (k : Kind) → isMark a k ≡ true → isLineEnd k ≡ false
-unfolding isMark isLineEnd
-mark-inside a (mark c) h = refl
-mark-inside a (word w) h = refl
-mark-inside a (number v) h = refl
-mark-inside a (quoted b w) h = refl
-mark-inside a newline h = sym h
-mark-inside a blank h = refl
-mark-inside a comment h = refl
-mark-inside a invalid h = refl
-mark-inside a end h = sym h
-mark-inside a (bad b) h = refl
-
-operator-inside : (k : Kind) (op : ℕ) → operatorOf k ≡ some op → isLineEnd k ≡ false
-unfolding operatorOf isMark isLineEnd
-operator-inside (mark c) op h = refl
-operator-inside (word w) op h = refl
-operator-inside (number v) op h = refl
-operator-inside (quoted b w) op h = refl
-operator-inside newline op h = cc
-operator-inside blank op h = refl
-operator-inside comment op h = refl
-operator-inside invalid op h = refl
-operator-inside end op h = cc
-operator-inside (bad b) op h = refl
 
 module _ (n hi D : ℕ) (rest : List Lexeme) where
   pub record On (m d : ℕ) (s : Line) : Type 0 where

@@ -1,5 +1,6 @@
 pub mod Table
 pub mod Records
+pub mod TokenKinds
 pub mod Move
 pub mod MoveState
 pub mod Mild

@@ -66,11 +66,12 @@ unfolding thence
 thence-stays P M k e (done w a s) h = after-stays P M w (k a s) (e a s h)
 thence-stays P M k e (refused r) h = h
 
-pub arrive-stays : {S A : Type 0} (P : S → Type 0) (M : Refusal → Type 0) (x : Lexeme) (p : Answer S A) → ((n : ℕ) → refusedAs (x .kind) ≡ some n → M (at n (x .from) (x .to))) → Stays P M p → Stays P M (arrive x p)
+-- What holds of an answer and of the token's refusal holds where the token is arrived at.
+pub arrived : {S A : Type 0} (T : Answer S A → Type 0) (x : Lexeme) {p : Answer S A} → ((n : ℕ) → refusedAs (x .kind) ≡ some n → T (refused (at n (x .from) (x .to)))) → T p → T (arrive x p)
 unfolding arrive
-arrive-stays P M x p m h = go (refusedAs (x .kind)) refl
+arrived T x {p} m h = go (refusedAs (x .kind)) refl
   where
-    go : (o : Option ℕ) → refusedAs (x .kind) ≡ o → Stays P M (maybe o p (λ n. refused (at n (x .from) (x .to))))
+    go : (o : Option ℕ) → refusedAs (x .kind) ≡ o → T (maybe o p (λ n. refused (at n (x .from) (x .to))))
     go none e = h
     go (some n) e = m n e
 
@@ -343,7 +344,7 @@ next-mild = record { law = λ s. go (s .more) s }
   where
     go : (xs : List Lexeme) (s : Line) → Stays (λ _. Unit {0}) Mild (step xs s)
     go [] s = tt
-    go (x ∷ xs) s = arrive-stays (λ _. Unit {0}) Mild x _ (λ n e. bad-mild (x .kind) n e) tt
+    go (x ∷ xs) s = arrived (Stays (λ _. Unit {0}) Mild) x (λ n e. bad-mild (x .kind) n e) tt
 
 -- What moves is gentle: the walk says so for any P.
 pub gentle : {A : Type 0} {g : A → A} {m m′ : Reader Line A} → ((P : Line → Type 0) → ((s : Line) → P s → Stays P Mild (next s)) → Shifts same P g m m′) → Gentle m

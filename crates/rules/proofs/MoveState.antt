@@ -12,7 +12,7 @@ use Rattle.rules.specs.Records.{field, moveRecord}
 use Rattle.rules.specs.Reader.{Answer, done, refused, Reader, Line, arrive, next, isMark, isLineEnd}
 use Rattle.rules.specs.Operands.{isWord}
 use Rattle.rules.specs.Statements.{Row, State, over, inLine, firstOf, enter, stepRow, nextRow, lineEnd, skip, skipLines, passing, label, rep, repne, instruction, constant, literalOf, literals, someData, dataOf, line, content, times, begun, statement}
-use Rattle.rules.proofs.Move.{Mild, Any, Stays, arrive-stays, next-mild, same, carry, Moves, bind, andThen, returns, writes, refuses, whether, perhaps, moveToken, moveRefusal, moveLine, Shifts, arrive-moves, next-shifts, ahead-shifts, kind-shifts, passed-shifts, left-shifts, here-shifts, expression-shifts, moveOperands, operands-shifts}
+use Rattle.rules.proofs.Move.{Mild, Any, Stays, arrived, next-mild, same, carry, Moves, bind, andThen, returns, writes, refuses, whether, perhaps, moveToken, moveRefusal, moveLine, Shifts, arrive-moves, next-shifts, ahead-shifts, kind-shifts, passed-shifts, left-shifts, here-shifts, expression-shifts, moveOperands, operands-shifts}
 
 module _ (f : ℕ → ℕ) where
   unfoldable pub moveRow : Row → Row
@@ -88,7 +88,7 @@ module _ (f : ℕ → ℕ) (P : State → Type 0)
   stepRow-stays : (l : Line) (rs : List Row) → P (record { line = l; below = rs }) → Stays P Any (stepRow rs (record { line = l; below = rs }))
   unfolding stepRow
   stepRow-stays l [] h = h
-  stepRow-stays l (r ∷ rs) h = arrive-stays P Any (r .first) _ (λ n e. tt) (closed-row l r rs h)
+  stepRow-stays l (r ∷ rs) h = arrived (Stays P Any) (r .first) (λ n e. tt) (closed-row l r rs h)
 
   skip-stays : (l : Line) (rs : List Row) → P (record { line = l; below = rs }) → Stays P Any (skip l rs)
   unfolding skip enter
@@ -99,7 +99,7 @@ module _ (f : ℕ → ℕ) (P : State → Type 0)
       t = firstOf r
 
       go : (c : Bool) → Stays P Any (skip t rs) → Stays P Any (if_then_else_ {A = Answer State (Unit {0})} c (arrive (r .first) (skip t rs)) (done [] tt (record { line = l; below = r ∷ rs })))
-      go true i = arrive-stays P Any (r .first) (skip t rs) (λ n e. tt) i
+      go true i = arrived (Stays P Any) (r .first) (λ n e. tt) i
       go false i = h
 
   pub inLines : {A : Type 0} {g : A → A} {m m′ : Reader Line A} → ((Q : Line → Type 0) → ((l : Line) → Q l → Stays Q Mild (next l)) → Shifts f Q g m m′) → ShiftsState f P g (inLine m) (inLine m′)

@@ -13,7 +13,7 @@ use lib.Dec.{eqb, ltb}
 use lib.ListN.{length, take, drop, length-append, length-take, take-append-drop}
 use borrow.Author.Tests.{le-leb, lt-ltb, eq-eqb}
 use Rattle.lexer.specs.Text.{if_then_else_, maybe, is, bytes, same}
-use Rattle.rules.specs.Lexemes.{Kind, word, number, quoted, mark, newline, blank, comment, invalid, end, bad, Lexeme, textOf, nameIn, operationIn}
+use Rattle.rules.specs.Lexemes.{Kind, word, number, quoted, mark, newline, blank, comment, invalid, end, bad, Lexeme, nameIn, operationIn}
 use Rattle.names.specs.Names.{registers, segments, sizes, named, operationNamed, placeFrom}
 use Rattle.rules.specs.Records.{Record, ST, VC, VL, VI, VS, PF, IN, OR, OS, OI, OF, OD, OX, LL, LI, LD, LC, LT, field}
 use Rattle.rules.specs.Reader.{at, Reader, Line, _>>=_, _>>_, return, write, refuse, step, next, ahead, kind, passed, isMark, isLineEnd, expect}
@@ -23,6 +23,7 @@ use Rattle.rules.specs.Statements.{label, literalOf, literals}
 use Rattle.rules.specs.WellFormed.{Stack, stack, allow, toExpression, toOperand, toLine, spans, given, checked}
 use Rattle.rules.specs.Patch.{statementFrom}
 use Rattle.rules.proofs.Table.{Proper}
+use Rattle.rules.proofs.TokenKinds.{asked}
 use Rattle.rules.proofs.Hoare.{nil, Post, holds, Triple, bind, andThen, whether, perhaps, returns, refuses, writes, before, behind, known, derive, arrive-post, attempts, askAhead, askKind, askPassed, askLeft, here-fails}
 
 -- What a record holds besides what the check tests.
@@ -125,14 +126,6 @@ place-small m w (row ∷ t) r h = go (same w (bytes row)) h (λ e. place-small (
     go : (b : Bool) → _≡_ {A = Option ℕ} (if b then (some m) else (placeFrom (suc m) w t)) (some r) → (placeFrom (suc m) w t ≡ some r → r < suc m + length t) → r < m + suc (length t)
     go true e again = let z : m ≡ r = cc in omega arith
     go false e again = omega (arith, again e)
-
--- What is asked of a token's text is answered for a name.
-pub asked : (k : Kind) (ask : List ℕ → Option ℕ) (r : ℕ) → maybe (textOf k) none ask ≡ some r → (w : List ℕ) × (textOf k ≡ some w) × (ask w ≡ some r)
-asked k ask r = go (textOf k) refl
-  where
-    go : (o : Option (List ℕ)) → textOf k ≡ o → maybe o none ask ≡ some r → (w : List ℕ) × (textOf k ≡ some w) × (ask w ≡ some r)
-    go none e h = absurd (true≢false cc)
-    go (some w) e h = (w, e, h)
 
 name-small : (t : List String) (k : Kind) (r : ℕ) → nameIn t k ≡ some r → r < length t
 unfolding nameIn named
