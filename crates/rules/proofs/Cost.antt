@@ -8,7 +8,7 @@ use Prim.Native.Char.{Char}
 use native.Mathlib.Omega.{arith}
 use native.Mathlib.Nat.{le-refl}
 use lib.Dec.{eqb, ltb}
-use lib.ListN.{length, take, length-append, length-take}
+use lib.ListN.{length, take, length-append}
 use Rattle.lexer.specs.Text.{if_then_else_, is, bytes}
 use Rattle.rules.specs.Lexemes.{Kind, word, number, quoted, mark, newline, blank, comment, invalid, end, bad, Lexeme, textOf, nameIn}
 use Rattle.names.specs.Names.{registers, segments, sizes}
@@ -19,7 +19,7 @@ use Rattle.rules.specs.Operands.{immediateOrFar, alone, isIndex, isBase,
 use Rattle.rules.specs.Statements.{label, literalOf, literals}
 use Rattle.rules.proofs.TokenKinds.{mark-inside, operator-inside, name-inside}
 use Rattle.rules.proofs.Hoare.{Run, nil, cons, Post, holds, Triple, now, after-post, bind, andThen, whether, perhaps, returns, refuses, writes, before, behind, arrive-post, attempts, askAhead, askKind, askPassed, askLeft, here-fails}
-use Rattle.rules.proofs.Shape.{Holds, Sound, Chain, chain-low}
+use Rattle.rules.proofs.Shape.{Holds, Sound, Chain, chain-low, width-four}
 
 abbrev pub weight : List Record → ℕ
 weight w = length (listing w)
@@ -285,10 +285,6 @@ module _ (n hi D : ℕ) (rest : List Lexeme) where
   unfolding label encode fields field bytes
   label-on m x = kindThen _ λ y g. andThen (whether (isMark ":" (y .kind)) (λ e. behind (λ _ d s h. on-less (omega arith) h) (past y g (mark-inside ":" (y .kind) e))) (λ _. returns tt (λ d s h. h .1)))
       (λ _. pays {m = m} _ 10 (le-refl 10))
-
-  width-four : (width v : ℕ) → length (take width (field v)) ≤ 4
-  unfolding field
-  width-four width v = omega (arith, length-take width (field v))
 
   module _ {others : Reader Line (List ℕ)} (more′ : (m : ℕ) → Triple Writes (On m) others (λ ds. On (m + length ds))) where
     chunk : (m k : ℕ) (x : Lexeme) (g : List ℕ) → k + x .from ≤ x .to → length g ≤ 18 * k → Triple Writes (Here x m) (next >> others >>= λ ds. return (g ++ ds)) (λ ds. On (m + length ds))

@@ -3,7 +3,6 @@ use mathlib.Core.Path.{_≡_, refl, sym, ap, ap₂, _∙_}
 use mathlib.Core.Bool.{Bool, true, false, _&&_, true≢false, false≢true}
 use mathlib.Core.List.{List, [], _∷_, _++_, map, append-nil}
 use mathlib.Core.Option.{Option, none, some}
-use mathlib.Core.Logic.{_⊎_, inl, inr}
 use Prim.Native.Nat.{ℕ, zero, suc, pred, _+_, _≤_, zero-le}
 use native.Mathlib.Omega.{arith}
 use lib.Dec.{eqb}
@@ -34,15 +33,6 @@ Lack (encoding f t a b) = ⊥
 abbrev pub IsOpen : {S A : Type 0} → Answer S A → Type 0
 IsOpen (done w a s) = ⊥
 IsOpen (refused r) = Lack r
-
-pub mild-or-lack : (r : Refusal) → Mild r ⊎ Lack r
-mild-or-lack (at n f t) = go (eqb n 34)
-  where
-    go : (b : Bool) → (b ≡ false) ⊎ (b ≡ true)
-    go true = inr refl
-    go false = inl refl
-mild-or-lack (nowhere n) = inl tt
-mild-or-lack (encoding f t a b) = inl tt
 
 pub not-both : (r : Refusal) → Mild r → Lack r → ⊥
 not-both (at n f t) m l = true≢false (sym l ∙ m)

@@ -3,7 +3,6 @@ pub mod Records
 pub mod TokenKinds
 pub mod Move
 pub mod MoveState
-pub mod Mild
 pub mod Lexemes
 pub mod Rows
 pub mod Decoded

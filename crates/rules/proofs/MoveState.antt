@@ -9,10 +9,11 @@ use Rattle.lexer.specs.Text.{if_then_else_, is}
 use Rattle.rules.specs.Lexemes.{Kind, word, number, quoted, mark, newline, blank, comment, invalid, end, bad, Lexeme, nameIn, operationIn}
 use Rattle.names.specs.Names.{directives}
 use Rattle.rules.specs.Records.{field, moveRecord}
-use Rattle.rules.specs.Reader.{Answer, done, refused, Reader, Line, arrive, next, isMark, isLineEnd}
-use Rattle.rules.specs.Operands.{isWord}
+use Rattle.rules.specs.Reader.{Answer, done, refused, Reader, Line, arrive, next, isMark, isLineEnd, ahead, passed, left, refuseHere}
+use Rattle.rules.specs.Operands.{operands, isWord}
+use Rattle.rules.specs.Expressions.{expression}
 use Rattle.rules.specs.Statements.{Row, State, over, inLine, firstOf, enter, stepRow, nextRow, lineEnd, skip, skipLines, passing, label, rep, repne, instruction, constant, literalOf, literals, someData, dataOf, line, content, times, begun, statement}
-use Rattle.rules.proofs.Move.{Mild, Any, Stays, arrived, next-mild, same, carry, Moves, bind, andThen, returns, writes, refuses, whether, perhaps, moveToken, moveRefusal, moveLine, Shifts, arrive-moves, next-shifts, ahead-shifts, kind-shifts, passed-shifts, left-shifts, here-shifts, expression-shifts, moveOperands, operands-shifts}
+use Rattle.rules.proofs.Move.{Mild, Any, Stays, arrived, Gentle, gentle, next-mild, same, carry, Moves, bind, andThen, returns, writes, refuses, whether, perhaps, moveToken, moveRefusal, moveLine, Shifts, arrive-moves, next-shifts, ahead-shifts, kind-shifts, passed-shifts, left-shifts, here-shifts, expression-shifts, moveOperands, operands-shifts}
 
 module _ (f : ℕ → ℕ) where
   unfoldable pub moveRow : Row → Row
@@ -168,3 +169,28 @@ module _ (f : ℕ → ℕ) (P : State → Type 0)
     pub statement-shifts : ShiftsState f P same (statement table) (statement table)
     unfolding statement
     statement-shifts = andThen skipLines-shifts begun-shifts
+
+-- What is read within a line is never refused with 34, so that it doesn't depend on the lines below: it rides along with moving.
+pub ahead-mild : Gentle ahead
+ahead-mild = gentle (ahead-shifts same)
+
+pub passed-mild : Gentle passed
+passed-mild = gentle (passed-shifts same)
+
+pub left-mild : Gentle left
+left-mild = gentle (left-shifts same)
+
+pub here-mild : {A : Type 0} (n : ℕ) → eqb n 34 ≡ false → Gentle (refuseHere {A = A} n)
+here-mild n h = gentle (λ P c. here-shifts same P c same n h)
+
+pub expression-mild : Gentle expression
+expression-mild = gentle (expression-shifts same)
+
+pub operands-mild : Gentle operands
+operands-mild = gentle (operands-shifts same)
+
+pub label-mild : (x : Lexeme) → Gentle (label x)
+label-mild x = gentle (λ P c. label-shifts same P c x)
+
+pub literals-mild : (n width : ℕ) → Gentle (literals n width)
+literals-mild n width = gentle (λ P c. literals-shifts same P c n width)

@@ -1,7 +1,7 @@
 -- The listing that is read is well-formed: its records, one by one, take the stack of the listing's check on, and the tokens' places rise, so
 -- that every span is in range.
 use mathlib.Core.Path.{_≡_, refl, sym, ap, _∙_}
-use mathlib.Core.Bool.{Bool, true, false, _&&_, _||_, true≢false}
+use mathlib.Core.Bool.{Bool, true, false, _||_, true≢false}
 use mathlib.Core.List.{List, [], _∷_, _++_}
 use mathlib.Core.Option.{Option, none, some}
 use Prim.Native.Nat.{ℕ, zero, suc, _+_, _*_, _-_, _≤_, _<_, zero-le}
@@ -243,7 +243,7 @@ module _ (p0 : ℕ) where
     join = λ i. expression-second 2 e (suc (suc i)) (suc i) (omega arith) (omega arith);
   }
 
-width-four : (width v : ℕ) → length (take width (field v)) ≤ 4
+pub width-four : (width v : ℕ) → length (take width (field v)) ≤ 4
 unfolding field
 width-four width v = omega (arith, length-take width (field v))
 
@@ -398,20 +398,16 @@ module _ (n hi p0 : ℕ) (rest : List Lexeme) where
 
     -- An operand, which makes D of the context.
     module _ {D : Stack} (lone : toOperand 0 (C 0) ≡ some D) (single : toOperand 1 (C 1) ≡ some D) (double : toOperand 2 (C 2) ≡ some D) where
-      written : (i f t : ℕ) (o : Option Stack) (c : Bool) → c ≡ true → p0 ≤ f → f ≤ t → t ≤ n → o ≡ some D → given (spans n (C i) f t && c) o ≡ some D
+      written : (i f t : ℕ) (o : Option Stack) → p0 ≤ f → f ≤ t → t ≤ n → o ≡ some D → given (spans n (C i) f t) o ≡ some D
       unfolding given
-      written i f t o c h u v l e = rw (span-true (C i) f t (ctx .places i) u v l, h) e
-
-      written-plain : (i f t : ℕ) (o : Option Stack) → p0 ≤ f → f ≤ t → t ≤ n → o ≡ some D → given (spans n (C i) f t) o ≡ some D
-      unfolding given
-      written-plain i f t o u v l e = rw (span-true (C i) f t (ctx .places i) u v l) e
+      written i f t o u v l e = rw (span-true (C i) f t (ctx .places i) u v l) e
 
       immediate-on : {b c : ℕ} → Triple (Checks n) (On b c (C 0)) immediateOrFar (λ _. On c 0 D)
       unfolding immediateOrFar checked statementFrom
       immediate-on = aheadThen λ x f. behind (λ _ k s h. on-less (f .soon) (le-refl 0) h) (andThen (expression-on 0) (λ _. kindThen _ λ y g. whether (isMark ":" (y .kind))
           (λ _. behind (λ _ k s h. on-less (le-trans (g .later) (g .sound .ordered)) (le-refl 0) h) (andThen nexts (λ _. andThen (from-low (expression-on 1)) (λ _. passedThen λ t j l.
-          checks _ refl tt (written-plain 2 (x .from) t _ (f .start) (omega (arith, f .sound .ordered, g .later, g .sound .ordered)) l double)))))
-          (λ _. behind (λ _ k s h. on-less (le-refl (x .to)) zero-le h) (passedThen λ t j l. checks _ refl tt (written-plain 1 (x .from) t _ (f .start) (le-trans (f .sound .ordered) j) l single)))))
+          checks _ refl tt (written 2 (x .from) t _ (f .start) (omega (arith, f .sound .ordered, g .later, g .sound .ordered)) l double)))))
+          (λ _. behind (λ _ k s h. on-less (le-refl (x .to)) zero-le h) (passedThen λ t j l. checks _ refl tt (written 1 (x .from) t _ (f .start) (le-trans (f .sound .ordered) j) l single)))))
 
       -- the registers of a bracket, past b
       plusIndex-on : {b c : ℕ} (f r : ℕ) → Triple (Checks n) (On b c (C 0)) (plusIndex f r) (λ o k s. Coded o × On c 0 (C 0) k s)
