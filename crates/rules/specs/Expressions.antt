@@ -62,7 +62,7 @@ primary inner = do
         t ← passed
         write (PF (x .from) t op)
 
--- The infix operators, with their right sides, that stand behind an expression which began at f.
+-- The infix operators of a level and above, with their right sides, that stand behind an expression which began at f; at most n of them.
 unfoldable pub infixes : ℕ → (ℕ → Reader Line (Unit {0})) → ℕ → ℕ → Reader Line (Unit {0})
 infixes zero inner level f = return tt
 infixes (suc n) inner level f = do

@@ -25,6 +25,7 @@ immediateOrFar = do
         t ← passed
         write (OI (x .from) t))
 
+-- The registers that a bracket may begin with, by their numbers.
 abbrev pub bx : ℕ
 bx = 11
 
@@ -63,6 +64,7 @@ plusIndex f r = do
         if isIndex r then (refuse (at 33 f t)) else (return (some (paired r q))))
       else (refuse (encoding f (x .to) r q))
 
+-- The encoding behind the first register.
 unfoldable pub second : ℕ → ℕ → Reader Line ℕ
 second f r = do
   k ← kind
@@ -104,6 +106,7 @@ override = do
     expect ":" 12
     return (suc s)
 
+-- What a bracket may begin with.
 unfoldable pub isWord : Kind → Bool
 isWord k = maybe (textOf k) false (λ w. true)
 
@@ -149,7 +152,8 @@ operand = do
   n ← left
   operandSized (suc n) 0
 
--- The operands of an instruction: how many, and their span.
+-- The operands of an instruction, none, one, or two with a comma between them (11): how many, and their span. With none it is end..end of
+-- the word.
 pub record Operands : Type 0 where
   pub count : ℕ
   pub from : ℕ

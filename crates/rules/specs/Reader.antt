@@ -53,6 +53,7 @@ unfoldable pub _>>=_ : {S A B : Type 0} → Reader S A → (A → Reader S B) �
 unfoldable pub _>>_ : {S A B : Type 0} → Reader S A → Reader S B → Reader S B
 m >> k = m >>= (λ _. k)
 
+-- A value; a record; a refusal.
 unfoldable pub return : {S A : Type 0} → A → Reader S A
 return a s = done [] a s
 
@@ -111,6 +112,7 @@ kind s = done [] (s .here .kind) s
 unfoldable pub passed : Reader Line ℕ
 passed s = done [] (s .last) s
 
+-- How many tokens stand behind it: no loop within a line goes round more often.
 unfoldable pub left : Reader Line ℕ
 left s = done [] (length (s .more)) s
 
