@@ -194,6 +194,22 @@ fn joined(a: u8, b: u8, c: u8, d: u8, e: u8, f: u8, g: u8, h: u8) -> u64
     n * 256 + h as u64
 }
 
+// The first seven letters of a word as one number.
+fn letters(word: &[u8]) -> u64
+    ensures { λ r. ⌜ r ≡ keys.seven (map text.lower (now (word .entry))) ⌝ }
+{
+    joined(
+        0,
+        letter_at(word, 0),
+        letter_at(word, 1),
+        letter_at(word, 2),
+        letter_at(word, 3),
+        letter_at(word, 4),
+        letter_at(word, 5),
+        letter_at(word, 6),
+    )
+}
+
 // The key of a word, or 0 where the word can be no name: it is empty, has more than seven letters or ends in a zero.
 fn word_key(word: &[u8]) -> u64
     ensures { λ r. ⌜ r ≡ keys.keyOf (map text.lower (now (word .entry))) ⌝ }
@@ -207,22 +223,13 @@ fn word_key(word: &[u8]) -> u64
     if letter_at(word, word.len() - 1) == 0 {
         return 0;
     }
-    joined(
-        0,
-        letter_at(word, 0),
-        letter_at(word, 1),
-        letter_at(word, 2),
-        letter_at(word, 3),
-        letter_at(word, 4),
-        letter_at(word, 5),
-        letter_at(word, 6),
-    )
+    letters(word)
 }
 
-// A row's key with the operation's number behind it.
+// The eight bytes of a row as one number: its key, and the operation's number behind it.
 fn row_at(table: &[u8; 936], row: usize) -> u64
     requires { ⌜ row < 117 ⌝ }
-    ensures { λ r. ⌜ r ≡ keys.keyAt (now (table .entry)) row * 256 + getD (now (table .entry)) (8 * row + 7) 0 ⌝ }
+    ensures { λ r. ⌜ r ≡ keys.eight (now (table .entry)) (8 * row) ⌝ }
 {
     let i = 8 * row;
     joined(
