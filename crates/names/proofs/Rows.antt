@@ -1,7 +1,7 @@
 -- In a good table the keys rise, so at most one row has a word's key, and the word names the operation of that row.
-use mathlib.Core.Path.{_≡_, refl, sym, ap, _∙_}
+use mathlib.Core.Path.{_≡_, refl, sym, ap, subst, _∙_}
 use mathlib.Core.Bool.{Bool, true, false, _&&_}
-use mathlib.Core.List.{List}
+use mathlib.Core.List.{List, map}
 use mathlib.Core.Option.{Option, none, some}
 use Prim.Native.Nat.{ℕ, zero, suc, _+_, _*_, _≤_, _<_, suc-le-suc}
 use native.Mathlib.Nat.{le-of-suc-le-suc, not-suc-le-zero, lt-trans}
@@ -10,10 +10,10 @@ use lib.Dec.{T, eqb, ltb, eqb→eq, ltb→lt}
 use lib.ListN.{getD, drop}
 use lib.Seq.{getD-drop, drop-drop}
 use borrow.Author.Tests.{eq-eqb, ne-eqb}
-use Rattle.lexer.specs.Text.{if_then_else_, same}
-use Rattle.names.specs.Names.{spelling, operationFrom}
-use Rattle.names.specs.Keys.{key, keyAt, keyOf, spelled, goodFrom}
-use Rattle.names.proofs.Keys.{both, by-key}
+use Rattle.lexer.specs.Text.{if_then_else_, lower, same}
+use Rattle.names.specs.Names.{spelling, operationFrom, operationNamed}
+use Rattle.names.specs.Keys.{key, keyAt, keyOf, spelled, goodFrom, goodTable}
+use Rattle.names.proofs.Keys.{Bytes, both, by-key, lower-small}
 
 -- the first of n + 1 good rows
 record Good (n k : ℕ) (t : List ℕ) : Type 0 where
@@ -40,12 +40,16 @@ above (suc n) p t g (suc k) h =
     let r = good n p t g in
     rw (next t k) (lt-trans (r .above) (above n (key t) (drop 8 t) (r .more) k (le-of-suc-le-suc h)))
 
-pub rise : (n p : ℕ) (t : List ℕ) → T (goodFrom n p t) → (i j : ℕ) → i < j → j < n → keyAt t i < keyAt t j
+rise : (n p : ℕ) (t : List ℕ) → T (goodFrom n p t) → (i j : ℕ) → i < j → j < n → keyAt t i < keyAt t j
 rise zero p t g i j l h = absurd (not-suc-le-zero h)
 rise (suc n) p t g i zero l h = absurd (not-suc-le-zero l)
 rise (suc n) p t g zero (suc j) l h = rw (next t j) (above n (key t) (drop 8 t) (good n p t g .more) j (le-of-suc-le-suc h))
 rise (suc n) p t g (suc i) (suc j) l h =
     rw (next t i, next t j) (rise n (key t) (drop 8 t) (good n p t g .more) i j (le-of-suc-le-suc l) (le-of-suc-le-suc h))
+
+pub rising : (t : List ℕ) → goodTable t ≡ true → (i j : ℕ) → i < j → j < 117 → keyAt t i < keyAt t j
+unfolding goodTable
+rising t e = rise 117 0 t (subst T (sym e) tt)
 
 module _ (v : List ℕ) (small : (i : ℕ) → getD v i 0 < 256) where
   row : (n p : ℕ) (t : List ℕ) → Good n p t → same v (spelling t) ≡ eqb (keyOf v) (key t)
@@ -55,7 +59,7 @@ module _ (v : List ℕ) (small : (i : ℕ) → getD v i 0 < 256) where
   unfolding operationFrom
   other n p t r differs = rw (row n p t r ∙ ne-eqb (keyOf v) (key t) differs)
 
-  pub absent : (n p : ℕ) (t : List ℕ) → T (goodFrom n p t) → ((k : ℕ) → k < n → keyAt t k ≡ keyOf v → ⊥) → operationFrom n v t ≡ none
+  absent : (n p : ℕ) (t : List ℕ) → T (goodFrom n p t) → ((k : ℕ) → k < n → keyAt t k ≡ keyOf v → ⊥) → operationFrom n v t ≡ none
   unfolding operationFrom
   absent zero p t g none-has = refl
   absent (suc n) p t g none-has =
@@ -63,7 +67,7 @@ module _ (v : List ℕ) (small : (i : ℕ) → getD v i 0 < 256) where
       other n p t r (λ e. none-has 0 (omega arith) (sym e))
       ∙ absent n (key t) (drop 8 t) (r .more) (λ k h e. none-has (suc k) (suc-le-suc h) (next t k ∙ e))
 
-  pub present : (n p : ℕ) (t : List ℕ) → T (goodFrom n p t) → (k : ℕ) → k < n → keyAt t k ≡ keyOf v → operationFrom n v t ≡ some (getD t (8 * k + 7) 0)
+  present : (n p : ℕ) (t : List ℕ) → T (goodFrom n p t) → (k : ℕ) → k < n → keyAt t k ≡ keyOf v → operationFrom n v t ≡ some (getD t (8 * k + 7) 0)
   unfolding operationFrom
   present zero p t g k h e = absurd (not-suc-le-zero h)
   present (suc n) p t g zero h e = rw (row n p t (good n p t g) ∙ eq-eqb (keyOf v) (key t) (sym e))
@@ -74,3 +78,17 @@ module _ (v : List ℕ) (small : (i : ℕ) → getD v i 0 < 256) where
       other n p t r (λ q. omega arith)
       ∙ present n (key t) (drop 8 t) (r .more) k (le-of-suc-le-suc h) (sym (next t k) ∙ e)
       ∙ ap some (getD-drop 8 t (8 * k + 7) 0 ∙ ap (λ (i : ℕ). getD t i 0) m)
+
+-- A word that is looked up in a good table: k is the one row that may have its key.
+module _ (t : List ℕ) (g : goodTable t ≡ true) (w : List ℕ) (small : Bytes w) (k : ℕ) (h : k < 117) where
+  pub there : keyAt t k ≡ keyOf (map lower w) → some (getD t (8 * k + 7) 0) ≡ operationNamed t w
+  unfolding goodTable operationNamed
+  there e = sym (present (map lower w) (lower-small w small) 117 0 t (subst T (sym g) tt) k h e)
+
+  pub nowhere :
+      ((i : ℕ) → i < 117 → keyAt t i ≡ keyOf (map lower w) → i ≡ k)
+      → (keyAt t k ≡ keyOf (map lower w) → ⊥)
+      → none ≡ operationNamed t w
+  unfolding goodTable operationNamed
+  nowhere only differs =
+      sym (absent (map lower w) (lower-small w small) 117 0 t (subst T (sym g) tt) (λ i l e. differs (ap (keyAt t) (sym (only i l e)) ∙ e)))

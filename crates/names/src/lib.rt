@@ -182,7 +182,7 @@ fn letter_at(word: &[u8], i: usize) -> u8
 
 // Eight bytes as one number, the first highest. In this form the reads of a row become one.
 fn joined(a: u8, b: u8, c: u8, d: u8, e: u8, f: u8, g: u8, h: u8) -> u64
-    ensures { λ r. ⌜ r ≡ keys.joined 0 8 (a ∷ b ∷ c ∷ d ∷ e ∷ f ∷ g ∷ h ∷ []) ⌝ }
+    ensures { λ r. ⌜ (r ≡ keys.joined 0 8 (a ∷ b ∷ c ∷ d ∷ e ∷ f ∷ g ∷ h ∷ [])) × (h < 256) ⌝ }
 {
     let n = a as u64;
     let n = n * 256 + b as u64;
@@ -229,7 +229,7 @@ fn word_key(word: &[u8]) -> u64
 // The eight bytes of a row as one number: its key, and the operation's number behind it.
 fn row_at(table: &[u8; 936], row: usize) -> u64
     requires { ⌜ row < 117 ⌝ }
-    ensures { λ r. ⌜ r ≡ keys.eight (now (table .entry)) (8 * row) ⌝ }
+    ensures { λ r. ⌜ (r ≡ keys.eight (now (table .entry)) (8 * row)) × (getD (now (table .entry)) (8 * row + 7) 0 < 256) ⌝ }
 {
     let i = 8 * row;
     joined(
