@@ -7,8 +7,8 @@ use native.Mathlib.Numerals.{add-one}
 use native.Mathlib.Omega.{arith}
 use lib.Dec.{eqb, leb, ltb}
 use lib.ListN.{length, getD, take, drop, length-drop, drop-of-length-le, List·getD-eq-default}
-use lib.Seq.{drop-cons, getD-drop}
-use borrow.Author.Tests.{eq-eqb, ne-eqb, eqb-false, lt-ltb}
+use lib.Seq.{drop-cons, drop-drop, getD-drop}
+use borrow.Author.Tests.{eq-eqb, ne-eqb, eqb-true, eqb-false, lt-ltb}
 use Rattle.lexer.specs.Text.{if_then_else_, is, anyOf, isBlank, isDigit, isHexDigit, isLetter, isWordPart, within, run, all, last, digit, valueFrom, openText}
 use Rattle.lexer.specs.Tokens.{largest, numeral, stray, prefixed, digits, inBase, suffixed, numberAt, inQuotes, stringAfter, inComment, markAt, tokenAt, openTokens}
 use Rattle.lexer.specs.Runs.{valuedFrom, upToOne}
@@ -24,6 +24,12 @@ use Rattle.lexer.proofs.Runs.{run-le, run-all, run-ends}
 
 abbrev flat : ℕ → ℕ → ℕ → Scanned
 flat k v e = record { kind = k; value = v; end = e }
+
+-- a place at which a byte is read that is not 0 lies within
+there : (s : List ℕ) (i x : ℕ) → getD s i 0 ≡ suc x → i < length s
+there [] i x q = absurd (omega arith)
+there (c ∷ s) zero x q = omega arith
+there (c ∷ s) (suc i) x q = omega (arith, there s i x q)
 
 -- A token that goes on with a run.
 module _ (p : ℕ → Bool) (s : List ℕ) (at end : ℕ) (e : end ≡ at + 1 + run p (drop (at + 1) s)) where
@@ -48,11 +54,15 @@ module _ (s : List ℕ) (at end : ℕ) (e : end ≡ at + 1 + run inQuotes (drop 
   unfolding stringAfter is
   string-unclosed q = rw (ne-eqb _ 39 (λ r. q (sym quote ∙ r))) (ap (flat 34 0) (omega (arith, behind inQuotes s at end e)))
 
-  pub string-at-end : length s ≤ end → flat 34 0 end ≡ scannedOf at (stringAfter (drop (suc at) s))
-  string-at-end h = string-unclosed (λ q. eqb-false 0 39 refl (sym (List·getD-eq-default s 0 h) ∙ q))
+  -- the quote that closes it is there
+  pub string-room : getD s end 0 ≡ 39 → end < length s
+  string-room q = there s end 38 q
 
 -- Digits in a base.
 module _ (at c base end : ℕ) (ds : List ℕ) where
+  abbrev good : Bool
+  good = all (λ d. ltb (digit d) base) ds && leb (valueFrom 0 base ds) largest
+
   literal : at ≤ end → (t : Bool) (v w : ℕ) → (if t then Fits v else Beyond) ≡ Fits w → flat 48 w end ≡ scannedOf at (if t then numeral (end - at) v else stray c)
   unfolding numeral
   literal h true v w q =
@@ -68,11 +78,11 @@ module _ (at c base end : ℕ) (ds : List ℕ) where
 
   pub literal-fits : at ≤ end → {w : ℕ} → valuedFrom 0 base ds ≡ Fits w → flat 48 w end ≡ scannedOf at (digits c base ds (end - at))
   unfolding valuedFrom digits
-  literal-fits h q = literal h _ _ _ q
+  literal-fits h {w} q = literal h good (valueFrom 0 base ds) w q
 
   pub literal-beyond : valuedFrom 0 base ds ≡ Beyond → flat 33 c (at + 1) ≡ scannedOf at (digits c base ds (end - at))
   unfolding valuedFrom digits
-  literal-beyond q = no-literal _ _ _ q
+  literal-beyond q = no-literal (end - at) good (valueFrom 0 base ds) q
 
 -- A number with a prefix: the digits of its run fit the base.
 module _ (p : ℕ → Bool) (base at end : ℕ) (s : List ℕ) (e : end ≡ at + 2 + run p (drop (at + 2) s)) where
@@ -84,6 +94,13 @@ module _ (p : ℕ → Bool) (base at end : ℕ) (s : List ℕ) (e : end ≡ at +
   prefix-alone q =
       let empty : run p rest ≡ 0 = omega arith in
       rw (eq-eqb (run p rest) 0 empty)
+
+  pub prefix-within : (end ≡ at + 2 → ⊥) → end ≤ length s
+  prefix-within some = within (run p rest) refl
+    where
+      within : (n : ℕ) → run p rest ≡ n → end ≤ length s
+      within zero q = absurd (some (omega arith))
+      within (suc n) q = omega (arith, run-le p rest, length-drop (at + 2) s)
 
   module _ (fit : (c : ℕ) → p c ≡ true → digit c < base) (some : end ≡ at + 2 → ⊥) where
     count : end - (at + 2) ≡ run p rest
@@ -115,11 +132,11 @@ module _ (p : ℕ → Bool) (base at end : ℕ) (s : List ℕ) (e : end ≡ at +
 
     pub prefix-fits : {w : ℕ} → valuedFrom 0 base (take (end - (at + 2)) rest) ≡ Fits w → flat 48 w end ≡ scannedOf at (prefixed base p rest)
     unfolding prefixed value
-    prefix-fits q = rw long (fits _ _ (sym valued ∙ q))
+    prefix-fits {w} q = rw long (fits (leb value largest) w (sym valued ∙ q))
 
     pub prefix-beyond : valuedFrom 0 base (take (end - (at + 2)) rest) ≡ Beyond → flat 31 0 end ≡ scannedOf at (prefixed base p rest)
     unfolding prefixed value
-    prefix-beyond q = rw long (beyond _ (sym valued ∙ q))
+    prefix-beyond q = rw long (beyond (leb value largest) (sym valued ∙ q))
 
 -- A suffix is one of two letters.
 either : (a b x : ℕ) → (eqb x a || (eqb x b || false)) ≡ (eqb x a || eqb x b)
@@ -221,47 +238,129 @@ module _ (s : List ℕ) (at end : ℕ) (h : at < length s) (d : isDigit (getD s 
         unfolding inBase
         suffix-none x = whole ∙ rw (suffix-is, is-b, b, is-d, k, is-o, o, is-h, x)
 
-      pub suffix-at-end : length s ≤ end → suffixed first (drop (suc at) s) ≡ digits first 10 ds (end - at)
-      suffix-at-end l =
-          let after : getD s end 0 ≡ 0 = List·getD-eq-default s 0 l in
-          suffix-none (rw after) (rw after)
+pub larger-scanned : (at end : ℕ) → at < end → flat 30 0 end ≡ scannedOf at (Refused (end - at) LargerDigit)
+larger-scanned at end h = ap (flat 30 0) (omega arith)
 
--- The number that begins with c: which prefix the next byte is.
+-- The number that begins with c: what stands behind a leading zero.
 pub number-other : (c : ℕ) (cs : List ℕ) → (c ≡ 48 → ⊥) → numberAt c cs ≡ suffixed c cs
 unfolding numberAt is
 number-other c [] h = refl
 number-other c (d ∷ ds) h = rw (ne-eqb c 48 h)
 
-pub number-last : (c : ℕ) (s : List ℕ) (at : ℕ) → length s ≤ at + 1 → numberAt c (drop (suc at) s) ≡ suffixed c (drop (suc at) s)
-unfolding numberAt
-number-last c s at h =
-    let none : length s ≤ suc at = omega arith in
-    rw (drop-of-length-le s none)
+zero-then : (c : ℕ) (cs : List ℕ) (x : ℕ) → c ≡ 48 → getD cs 0 0 ≡ suc x → numberAt c cs ≡ numberAt 48 (suc x ∷ drop 1 cs)
+zero-then c [] x z q = absurd (omega arith)
+zero-then c (d ∷ ds) x z q = cc
 
-module _ (c : ℕ) (s : List ℕ) (at : ℕ) (h : at + 1 < length s) (z : c ≡ 48) where
-  second : drop (suc at) s ≡ getD s (at + 1) 0 ∷ drop (at + 2) s
+module _ (c : ℕ) (s : List ℕ) (at : ℕ) (z : c ≡ 48) where
+  second : getD (drop (suc at) s) 0 0 ≡ getD s (at + 1) 0
   second =
-      let one : at + 1 ≡ suc at = add-one at in
-      let two : at + 2 ≡ suc (at + 1) = omega arith in
-      rw (two, one) (drop-cons s (suc at) 0 (omega arith))
+      let place : suc at + 0 ≡ at + 1 = omega arith in
+      getD-drop (suc at) s 0 0 ∙ ap (λ k. getD s k 0) place
+
+  rest-of : drop 1 (drop (suc at) s) ≡ drop (at + 2) s
+  rest-of =
+      let place : suc at + 1 ≡ at + 2 = omega arith in
+      drop-drop 1 (suc at) s ∙ ap (λ k. drop k s) place
 
   pub number-binary : getD s (at + 1) 0 ≡ 98 → numberAt c (drop (suc at) s) ≡ prefixed 2 (within "0" "1") (drop (at + 2) s)
   unfolding numberAt is
-  number-binary b = rw (second, z, b)
+  number-binary b = zero-then c (drop (suc at) s) 97 z (second ∙ b) ∙ ap (prefixed 2 (within "0" "1")) rest-of
 
   pub number-octal : getD s (at + 1) 0 ≡ 111 → numberAt c (drop (suc at) s) ≡ prefixed 8 (within "0" "7") (drop (at + 2) s)
   unfolding numberAt is
-  number-octal b = rw (second, z, b)
+  number-octal b = zero-then c (drop (suc at) s) 110 z (second ∙ b) ∙ ap (prefixed 8 (within "0" "7")) rest-of
 
   pub number-decimal : getD s (at + 1) 0 ≡ 100 → numberAt c (drop (suc at) s) ≡ prefixed 10 isDigit (drop (at + 2) s)
   unfolding numberAt is
-  number-decimal b = rw (second, z, b)
+  number-decimal b = zero-then c (drop (suc at) s) 99 z (second ∙ b) ∙ ap (prefixed 10 isDigit) rest-of
 
   pub number-hexadecimal : getD s (at + 1) 0 ≡ 120 → numberAt c (drop (suc at) s) ≡ prefixed 16 isHexDigit (drop (at + 2) s)
   unfolding numberAt is
-  number-hexadecimal b = rw (second, z, b)
+  number-hexadecimal b = zero-then c (drop (suc at) s) 119 z (second ∙ b) ∙ ap (prefixed 16 isHexDigit) rest-of
 
-  pub number-plain : (getD s (at + 1) 0 ≡ 98 → ⊥) → (getD s (at + 1) 0 ≡ 111 → ⊥) → (getD s (at + 1) 0 ≡ 100 → ⊥) → (getD s (at + 1) 0 ≡ 120 → ⊥) →
-      numberAt c (drop (suc at) s) ≡ suffixed c (drop (suc at) s)
-  unfolding numberAt is
-  number-plain b o k x = rw (second, z, ne-eqb _ 98 b, ne-eqb _ 111 o, ne-eqb _ 100 k, ne-eqb _ 120 x)
+no-prefix : (c : ℕ) (cs : List ℕ) → c ≡ 48 → (getD cs 0 0 ≡ 98 → ⊥) → (getD cs 0 0 ≡ 111 → ⊥) → (getD cs 0 0 ≡ 100 → ⊥) → (getD cs 0 0 ≡ 120 → ⊥) → numberAt c cs ≡ suffixed c cs
+unfolding numberAt is
+no-prefix c [] z b o k x = refl
+no-prefix c (d ∷ ds) z b o k x = rw (z, ne-eqb d 98 b, ne-eqb d 111 o, ne-eqb d 100 k, ne-eqb d 120 x)
+
+pub number-plain : (c : ℕ) (s : List ℕ) (at : ℕ) → c ≡ 48 → (getD s (at + 1) 0 ≡ 98 → ⊥) → (getD s (at + 1) 0 ≡ 111 → ⊥) → (getD s (at + 1) 0 ≡ 100 → ⊥) → (getD s (at + 1) 0 ≡ 120 → ⊥) →
+    numberAt c (drop (suc at) s) ≡ suffixed c (drop (suc at) s)
+number-plain c s at z b o k x =
+    let e = sym (second c s at z) in
+    no-prefix c (drop (suc at) s) z (λ q. b (e ∙ q)) (λ q. o (e ∙ q)) (λ q. k (e ∙ q)) (λ q. x (e ∙ q))
+
+-- The token that begins with c, by the tests on c in their order.
+module _ (c : ℕ) (cs : List ℕ) where
+  pub token-comment : c ≡ 59 → tokenAt (c ∷ cs) ≡ Read (Comment (suc (run inComment cs)))
+  unfolding tokenAt is
+  token-comment h = rw h
+
+  module _ (h₁ : c ≡ 59 → ⊥) where
+    pub token-blank : isBlank c ≡ true → tokenAt (c ∷ cs) ≡ Read (Whitespace (suc (run isBlank cs)))
+    unfolding tokenAt is
+    token-blank h = rw (ne-eqb c 59 h₁, h)
+
+    module _ (h₂ : isBlank c ≡ false) where
+      pub token-number : isDigit c ≡ true → tokenAt (c ∷ cs) ≡ numberAt c cs
+      unfolding tokenAt is
+      token-number h = rw (ne-eqb c 59 h₁, h₂, h)
+
+      module _ (h₃ : isDigit c ≡ false) where
+        pub token-word : isLetter c ≡ true → tokenAt (c ∷ cs) ≡ Read (Identifier (suc (run isWordPart cs)))
+        unfolding tokenAt is
+        token-word h = rw (ne-eqb c 59 h₁, h₂, h₃, h)
+
+        module _ (h₄ : isLetter c ≡ false) where
+          pub token-string : c ≡ 39 → tokenAt (c ∷ cs) ≡ stringAfter cs
+          unfolding tokenAt is
+          token-string h = rw (ne-eqb c 59 h₁, h₂, h₃, h₄, eq-eqb c 39 h)
+
+          module _ (h₅ : c ≡ 39 → ⊥) where
+            pub token-line : c ≡ 10 → tokenAt (c ∷ cs) ≡ Read (NewLine 1)
+            unfolding tokenAt is
+            token-line h = rw (ne-eqb c 59 h₁, h₂, h₃, h₄, ne-eqb c 39 h₅, eq-eqb c 10 h)
+
+            pub token-mark : (c ≡ 10 → ⊥) → tokenAt (c ∷ cs) ≡ markAt c
+            unfolding tokenAt is
+            token-mark h = rw (ne-eqb c 59 h₁, h₂, h₃, h₄, ne-eqb c 39 h₅, ne-eqb c 10 h)
+
+-- what is scanned at a place is that of the token whose first byte stands there
+pub scanned-at : (s : List ℕ) (at : ℕ) {t : TokenRead} → at < length s → tokenAt (getD s at 0 ∷ drop (suc at) s) ≡ t → scannedOf at t ≡ scannedOf at (tokenAt (drop at s))
+scanned-at s at h e = ap (scannedOf at) (sym e ∙ ap tokenAt (sym (drop-cons s at 0 h)))
+
+pub scanned-end : (s : List ℕ) (at : ℕ) → length s ≤ at → flat 0 0 at ≡ scannedOf at (tokenAt (drop at s))
+unfolding tokenAt
+scanned-end s at h = rw (drop-of-length-le s h) (ap (flat 0 0) (omega arith))
+
+-- A punctuation is its own character; a byte that is none is a token of its own.
+data Marked (at c : ℕ) (b : Bool) (t : TokenRead) : Type 0 where
+  marked : (b ≡ true → flat c 0 (at + 1) ≡ scannedOf at t) → (b ≡ false → t ≡ stray c) → Marked at c b t
+
+no-mark : (at c : ℕ) → Marked at c false (stray c)
+no-mark at c = marked (λ q. let z : _≡_ {A = ℕ} 0 1 = cc in absurd (omega arith)) (λ q. refl)
+
+mark-or : {at c : ℕ} {b : Bool} {u : TokenRead} (a : ℕ) (t : TokenRead) → flat a 0 (at + 1) ≡ scannedOf at t → Marked at c b u → Marked at c (eqb c a || b) (if eqb c a then t else u)
+mark-or {at} {c} {b} {u} a t e m = go (eqb c a) refl m
+  where
+    go : (k : Bool) → eqb c a ≡ k → Marked at c b u → Marked at c (k || b) (if k then t else u)
+    go true q m = marked (λ r. rw (eqb-true c a q) e) (λ r. let z : _≡_ {A = ℕ} 0 1 = cc in absurd (omega arith))
+    go false q m = m
+
+marks : (at c : ℕ) → Marked at c (isMark c) (markAt c)
+unfolding isMark openTokens
+marks at c =
+    mark-or 58 _ refl (mark-or 44 _ refl (mark-or 36 _ refl (mark-or 46 _ refl (mark-or 91 _ refl (mark-or 93 _ refl
+    (mark-or 40 _ refl (mark-or 41 _ refl (mark-or 43 _ refl (mark-or 45 _ refl (mark-or 42 _ refl (mark-or 47 _ refl (no-mark at c))))))))))))
+
+pub mark-scanned : (at c : ℕ) → isMark c ≡ true → flat c 0 (at + 1) ≡ scannedOf at (markAt c)
+mark-scanned at c h = go (marks at c)
+  where
+    go : Marked at c (isMark c) (markAt c) → flat c 0 (at + 1) ≡ scannedOf at (markAt c)
+    go (marked f g) = f h
+
+pub stray-scanned : (at c : ℕ) → isMark c ≡ false → flat 33 c (at + 1) ≡ scannedOf at (markAt c)
+unfolding stray
+stray-scanned at c h = go (marks at c)
+  where
+    go : Marked at c (isMark c) (markAt c) → flat 33 c (at + 1) ≡ scannedOf at (markAt c)
+    go (marked f g) = ap (scannedOf at) (sym (g h))
