@@ -1,3 +1,7 @@
+-- The first byte settles the token, by the tests of the definition in their order.
+use mathlib.Core.Path.{_≡_, refl, sym, ap, _∙_}
+use native.Mathlib.Omega.{arith}
+use Rattle.lexer.proofs.Scans.{run-end-is, scanned-at, scanned-end, token-comment, token-blank, token-number, token-word, token-string, token-line, token-mark, mark-scanned, stray-scanned}
 use borrow.Author.Needs.{needs}
 use Rattle.lexer.proofs.scan.Statement.{statement}
 use Rattle.lexer.proofs.scan.Tie as tie
@@ -11,109 +15,83 @@ use Rattle.lexer.proofs.text.is_identifier_first.Reads as is-identifier
 use Rattle.lexer.proofs.text.is_whitespace.Reads as is-whitespace-reads
 use Rattle.lexer.proofs.text.run_end.Reads as run-end-reads
 
--- src/lib.rt:209:9
 returns : tie.Need-returns
-returns c = ?
+returns c = scanned-end _ _ (c .if1 .taken)
 
--- src/lib.rt:215:13
 shared-slice-read-c : tie.Need-shared-slice-read-c
 shared-slice-read-c c = search needs
 
--- src/lib.rt:217:35
 add-run-end : tie.Need-add-run-end
 add-run-end c = search needs
 
--- src/lib.rt:217:13
 run-end-requires : tie.Need-run-end-requires
 run-end-requires c κs = search needs
 
--- src/lib.rt:218:9
 returns-2 : tie.Need-returns-2
-returns-2 c = ?
+returns-2 c = run-end-is _ _ _ _ (c .run-end .ensures) 59 ∙ scanned-at _ _ (c .before .before .before .if1 .left) (token-comment _ _ (c .before .if2 .taken))
 
--- src/lib.rt:224:8
 is-whitespace-requires : tie.Need-is-whitespace-requires
 is-whitespace-requires c κs = search needs
 
--- src/lib.rt:225:35
 add-run-end-2 : tie.Need-add-run-end-2
 add-run-end-2 c = search needs
 
--- src/lib.rt:225:13
 run-end-requires-2 : tie.Need-run-end-requires-2
 run-end-requires-2 c κs = search needs
 
--- src/lib.rt:226:9
 returns-3 : tie.Need-returns-3
-returns-3 c = ?
+returns-3 c = run-end-is _ _ _ _ (c .run-end2 .ensures) 32 ∙ scanned-at _ _ (c .before .before .before .before .before .if1 .left) (token-blank _ _ (c .before .before .before .if2 .left) (sym (c .before .before .is-whitespace .ensures) ∙ c .before .if3 .taken))
 
--- src/lib.rt:232:8
 is-decimal-digit-requires : tie.Need-is-decimal-digit-requires
 is-decimal-digit-requires c κs = search needs
 
--- src/lib.rt:233:9
 number-requires : tie.Need-number-requires
-number-requires c κs = ?
+number-requires c κs = ((c .before .before .before .before .before .before .if1 .left), refl, (sym (c .before .is-decimal-digit .ensures) ∙ c .if4 .taken))
 
--- src/lib.rt:233:9
 returns-4 : tie.Need-returns-4
-returns-4 c = ?
+returns-4 c = c .number .ensures ∙ scanned-at _ _ (c .before .before .before .before .before .before .before .if1 .left) (token-number _ _ (c .before .before .before .before .before .if2 .left) (sym (c .before .before .before .before .is-whitespace .ensures) ∙ c .before .before .before .if3 .left) (sym (c .before .before .is-decimal-digit .ensures) ∙ c .before .if4 .taken))
 
--- src/lib.rt:235:8
 is-identifier-first-requires : tie.Need-is-identifier-first-requires
 is-identifier-first-requires c κs = search needs
 
--- src/lib.rt:236:35
 add-run-end-3 : tie.Need-add-run-end-3
 add-run-end-3 c = search needs
 
--- src/lib.rt:236:13
 run-end-requires-3 : tie.Need-run-end-requires-3
 run-end-requires-3 c κs = search needs
 
--- src/lib.rt:237:9
 returns-5 : tie.Need-returns-5
-returns-5 c = ?
+returns-5 c = run-end-is _ _ _ _ (c .run-end3 .ensures) 97 ∙ scanned-at _ _ (c .before .before .before .before .before .before .before .before .before .if1 .left) (token-word _ _ (c .before .before .before .before .before .before .before .if2 .left) (sym (c .before .before .before .before .before .before .is-whitespace .ensures) ∙ c .before .before .before .before .before .if3 .left) (sym (c .before .before .before .before .is-decimal-digit .ensures) ∙ c .before .before .before .if4 .left) (sym (c .before .before .is-identifier-first .ensures) ∙ c .before .if5 .taken))
 
--- src/lib.rt:244:9
 string-literal-requires : tie.Need-string-literal-requires
 string-literal-requires c κs = search needs
 
--- src/lib.rt:244:9
 returns-6 : tie.Need-returns-6
-returns-6 c = ?
+returns-6 c = c .string-literal .ensures ∙ scanned-at _ _ (c .before .before .before .before .before .before .before .before .before .before .if1 .left) (token-string _ _ (c .before .before .before .before .before .before .before .before .if2 .left) (sym (c .before .before .before .before .before .before .before .is-whitespace .ensures) ∙ c .before .before .before .before .before .before .if3 .left) (sym (c .before .before .before .before .before .is-decimal-digit .ensures) ∙ c .before .before .before .before .if4 .left) (sym (c .before .before .before .is-identifier-first .ensures) ∙ c .before .before .if5 .left) (c .before .if6 .taken))
 
--- src/lib.rt:250:18
 add-t20 : tie.Need-add-t20
 add-t20 c = search needs
 
--- src/lib.rt:247:9
 returns-7 : tie.Need-returns-7
-returns-7 c = ?
+returns-7 c = scanned-at _ _ (c .before .before .before .before .before .before .before .before .before .before .if1 .left) (token-line _ _ (c .before .before .before .before .before .before .before .before .if2 .left) (sym (c .before .before .before .before .before .before .before .is-whitespace .ensures) ∙ c .before .before .before .before .before .before .if3 .left) (sym (c .before .before .before .before .before .is-decimal-digit .ensures) ∙ c .before .before .before .before .if4 .left) (sym (c .before .before .before .is-identifier-first .ensures) ∙ c .before .before .if5 .left) (c .before .if6 .left) (c .if7 .taken))
 
--- src/lib.rt:253:8
 is-punctuation-requires : tie.Need-is-punctuation-requires
 is-punctuation-requires c κs = search needs
 
--- src/lib.rt:257:18
 add-t22 : tie.Need-add-t22
 add-t22 c = search needs
 
--- src/lib.rt:254:9
 returns-8 : tie.Need-returns-8
-returns-8 c = ?
+returns-8 c = mark-scanned _ _ (sym (c .before .is-punctuation .ensures) ∙ c .if8 .taken) ∙ scanned-at _ _ (c .before .before .before .before .before .before .before .before .before .before .before .before .if1 .left) (token-mark _ _ (c .before .before .before .before .before .before .before .before .before .before .if2 .left) (sym (c .before .before .before .before .before .before .before .before .before .is-whitespace .ensures) ∙ c .before .before .before .before .before .before .before .before .if3 .left) (sym (c .before .before .before .before .before .before .before .is-decimal-digit .ensures) ∙ c .before .before .before .before .before .before .if4 .left) (sym (c .before .before .before .before .before .is-identifier-first .ensures) ∙ c .before .before .before .before .if5 .left) (c .before .before .before .if6 .left) (c .before .before .if7 .left))
 
--- src/lib.rt:262:16
 cast-t23 : tie.Need-cast-t23
-cast-t23 c = ?
+cast-t23 c = omega (arith, c .before .before .before .before .before .before .before .before .before .before .before .shared-slice-known2 .given (c .before .before .before .before .before .before .before .before .before .before .before .before .before .before .args .at))
 
--- src/lib.rt:263:14
 add-t7 : tie.Need-add-t7
 add-t7 c = search needs
 
--- src/lib.rt:205:1
 returns-9 : tie.Need-returns-9
-returns-9 c = ?
+returns-9 c = stray-scanned _ _ (sym (c .before .is-punctuation .ensures) ∙ c .if8 .left) ∙ scanned-at _ _ (c .before .before .before .before .before .before .before .before .before .before .before .before .if1 .left) (token-mark _ _ (c .before .before .before .before .before .before .before .before .before .before .if2 .left) (sym (c .before .before .before .before .before .before .before .before .before .is-whitespace .ensures) ∙ c .before .before .before .before .before .before .before .before .if3 .left) (sym (c .before .before .before .before .before .before .before .is-decimal-digit .ensures) ∙ c .before .before .before .before .before .before .if4 .left) (sym (c .before .before .before .before .before .is-identifier-first .ensures) ∙ c .before .before .before .before .if5 .left) (c .before .before .before .if6 .left) (c .before .before .if7 .left))
 
 pub scan-spec : {M : Type 1} → statement M
 scan-spec =

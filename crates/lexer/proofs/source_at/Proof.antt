@@ -25,7 +25,7 @@ part-result-end : tie.Need-part-result-end
 part-result-end c = search needs
 
 returns : tie.Need-returns
-returns c = none-left _ _ _ (c .before .if1 .taken)
+returns c = none-left (c .before .before .args .source .now) (c .before .before .args .start) (c .before .before .args .len) (c .before .if1 .taken)
 
 sub-if2 : tie.Need-sub-if2
 sub-if2 c = search needs
