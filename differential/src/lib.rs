@@ -1,0 +1,5 @@
+//! The original Rust and the proved library, side by side.
+
+pub mod answer;
+#[cfg(original)]
+pub mod original;
