@@ -2,4 +2,9 @@
 
 pub mod answer;
 #[cfg(original)]
+pub mod limits;
+#[cfg(original)]
 pub mod original;
+#[cfg(original)]
+pub mod reads;
+pub mod sources;

@@ -49,14 +49,14 @@ fn number_of_panic(message: &str) -> u8 {
 
 /// A token that the parser sees, with its place; blanks and comments are left out.
 #[derive(Clone, Debug)]
-struct Placed {
-    token: Token,
-    from: usize,
-    to: usize,
+pub struct Placed {
+    pub token: Token,
+    pub from: usize,
+    pub to: usize,
 }
 
 /// The tokens up to the end of the source or the first refused number, and that one's number and place.
-fn tokens(source: &str) -> (Vec<Placed>, Option<(u8, usize)>) {
+pub fn tokens(source: &str) -> (Vec<Placed>, Option<(u8, usize)>) {
     let mut cursor = Cursor::new(source);
     let mut seen = Vec::new();
     loop {

@@ -1,7 +1,9 @@
 //! The oracle itself: what document 01 says of its samples, the original says too.
 #![cfg(original)]
 use differential::answer::shown;
-use differential::original;
+use differential::answer::Refusal;
+use differential::reads::{on_a_large_stack, Compare};
+use differential::{limits, original};
 
 #[test]
 fn samples_of_the_rules() {
@@ -36,4 +38,31 @@ fn samples_of_the_rules() {
         let said = shown(&original::read(source.as_bytes())).trim_end().replace('\n', ";");
         assert_eq!(said, expected, "{source:?}");
     }
+}
+
+/// The walk that finds the limits is the original's reading: with no limit near, both refuse the same sources with the same
+/// number. So is the whole comparison with itself, which shows how often each refusal is met.
+#[test]
+fn walk_and_original_agree() {
+    on_a_large_stack(|| {
+        let mut compare = Compare::new(|source: &[u8], buffer: &mut [u8]| {
+            let answer = limits::read(source);
+            let plain = original::read(source);
+            if source.len() <= 65536 && source.is_ascii() {
+                let walked = limits::walk(std::str::from_utf8(source).unwrap(), usize::MAX, usize::MAX);
+                assert_eq!(walked.map(|r| r.number), plain.as_ref().err().map(|r| r.number), "{source:?}");
+            }
+            let listing = answer?;
+            if listing.len() > buffer.len() {
+                return Err(Refusal::at(4, 0, 0));
+            }
+            buffer[..listing.len()].copy_from_slice(&listing);
+            Ok(listing.len())
+        });
+        compare.all(1);
+        println!("{:?}\n{:?}", compare.count, compare.refusals);
+        for number in [1, 2, 3, 5, 10, 11, 12, 13, 14, 15, 16, 17, 20, 21, 22, 23, 24, 25, 26, 30, 31, 32, 33, 34] {
+            assert!(compare.refusals[number] > 20, "refusal {number} is met {} times only", compare.refusals[number]);
+        }
+    });
 }
