@@ -14,6 +14,9 @@ fn main() {
         println!("cargo:rerun-if-changed={}", file.display());
         if let Ok(file) = file.canonicalize() {
             list += &format!("#[path = {file:?}]\npub mod {name};\n");
+            if name == "operations" {
+                list += &format!("pub const OPERATIONS: &str = include_str!({file:?});\n");
+            }
         }
     }
     fs::write(PathBuf::from(env::var("OUT_DIR").unwrap()).join("modules.rs"), list).unwrap();

@@ -8,3 +8,7 @@ pub mod original;
 #[cfg(original)]
 pub mod reads;
 pub mod sources;
+#[cfg(original)]
+pub mod tokens;
+#[cfg(original)]
+pub mod words;

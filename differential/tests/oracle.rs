@@ -3,7 +3,7 @@
 use differential::answer::shown;
 use differential::answer::Refusal;
 use differential::reads::{on_a_large_stack, Compare};
-use differential::{limits, original};
+use differential::{limits, original, words};
 
 #[test]
 fn samples_of_the_rules() {
@@ -38,6 +38,15 @@ fn samples_of_the_rules() {
         let said = shown(&original::read(source.as_bytes())).trim_end().replace('\n', ";");
         assert_eq!(said, expected, "{source:?}");
     }
+}
+
+#[test]
+fn spellings_of_the_original() {
+    let spellings = words::spellings();
+    let mut operations: Vec<u8> = spellings.iter().map(|word| words::original(word).operation).collect();
+    operations.sort();
+    operations.dedup();
+    assert_eq!((spellings.len(), operations.len(), operations[98]), (117, 99, 98));
 }
 
 /// The walk that finds the limits is the original's reading: with no limit near, both refuse the same sources with the same
