@@ -67,13 +67,19 @@ impl<F: TokenRead> Compare<F> {
         let bytes: Vec<[u8; 1]> = (0..128).map(|b| [b]).collect();
         let bytes: Vec<&[u8]> = bytes.iter().map(|b| b.as_slice()).collect();
         sources::each(&bytes, 2, &mut |source| self.every_place(source));
-        numbers(&mut |source| self.every_place(source.as_bytes()));
-        for unit in ["a", "0", "1", "f", " ", "\t\r", "\n", ";", "'", "$", "\u{7f}", "a1_ ", "0x1 ", "''", "'\n", "1b"] {
-            for length in [65535, 65536] {
-                let mut text = unit.repeat(length / unit.len() + 1);
-                text.truncate(length);
-                self.source(text.as_bytes());
+        numbers(&mut |source| if source.len() < 20 { self.every_place(source.as_bytes()) } else { self.source(source.as_bytes()) });
+        for length in [65535, 65536] {
+            for unit in ["a", "0", "f", " ", "\t\r", "\n", ";", "$", "\u{7f}", "a1_ ", "0x1 ", "'\n", "1b"] {
+                self.source(&repeated(unit, length));
             }
+            for (open, close) in [("'", "'"), ("'", ""), ("'", "\n"), (";", "\n"), ("0x", "")] {
+                let middle = repeated("0", length - open.len() - close.len());
+                self.source(&[open.as_bytes(), &middle, close.as_bytes()].concat());
+            }
+        }
+        // The whole rest is looked through at each quote, and the whole run at each digit of a number that is too large.
+        for unit in ["1", "'", "''", "'a' ", "'a'\n"] {
+            self.source(&repeated(unit, 4096));
         }
         let mut random = Random::new(2);
         for _ in 0..400_000 * scale {
@@ -95,6 +101,10 @@ impl<F: TokenRead> Compare<F> {
             self.source(&source);
         }
     }
+}
+
+fn repeated(unit: &str, length: usize) -> Vec<u8> {
+    unit.bytes().cycle().take(length).collect()
 }
 
 fn ascii(mut source: Vec<u8>) -> Vec<u8> {
