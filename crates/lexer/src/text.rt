@@ -4,7 +4,7 @@ ghost use mathlib.Core.Bool.{_||_};
 ghost use Prim.Native.Nat.{ℕ, _+_, _-_, _≤_, _<_};
 ghost use lib.Dec.{eqb};
 ghost use lib.ListN.{length, take, drop};
-ghost use Rattle.lexer.specs.Text.{within, isBlank, isDigit, isHexDigit, isLetter, isWordPart, lower, digit, run};
+ghost use Rattle.lexer.specs.Text.{within, isBlank, isDigit, isHexDigit, isLetter, isWordPart, digit, run};
 ghost use Rattle.lexer.specs.Runs.{belongs, valuedFrom};
 
 pub fn is_whitespace(c: u8) -> bool
@@ -34,13 +34,13 @@ pub fn is_decimal_digit(c: u8) -> bool
 pub fn is_hexadecimal_digit(c: u8) -> bool
     ensures { λ r. ⌜ r ≡ isHexDigit c ⌝ }
 {
-    ((b'0' <= c) & (c <= b'9')) | (((b'a' <= c) & (c <= b'f')) | ((b'A' <= c) & (c <= b'F')))
+    ((b'0' <= c) & (c <= b'9')) | ((b'a' <= c) & (c <= b'f')) | ((b'A' <= c) & (c <= b'F'))
 }
 
 pub fn is_identifier_first(c: u8) -> bool
     ensures { λ r. ⌜ r ≡ isLetter c ⌝ }
 {
-    ((b'a' <= c) & (c <= b'z')) | (((b'A' <= c) & (c <= b'Z')) | (c == b'_'))
+    ((b'a' <= c) & (c <= b'z')) | ((b'A' <= c) & (c <= b'Z')) | (c == b'_')
 }
 
 pub fn is_identifier(c: u8) -> bool
@@ -80,7 +80,7 @@ pub fn in_class(class: Class, c: u8) -> bool
         Class::Octal => is_octal_digit(c),
         Class::Decimal => is_decimal_digit(c),
         Class::Hexadecimal => is_hexadecimal_digit(c),
-        Class::Quoted => (c != b'\'') & (c != b'\n'),
+        Class::Quoted => !((c == b'\'') | (c == b'\n')),
         Class::Comment => c != b'\n',
     }
 }
@@ -100,30 +100,26 @@ pub fn run_end(source: &[u8], from: usize, class: Class) -> usize
     i
 }
 
-pub fn lower_case(c: u8) -> u8
-    ensures { λ r. ⌜ r ≡ lower c ⌝ }
-{
-    if c < b'A' {
-        return c;
-    }
-    if b'Z' < c {
-        return c;
-    }
-    c + 32
-}
-
 // What a digit is worth.
 pub fn digit_value(c: u8) -> u64
-    ensures { λ r. ⌜ (r ≡ digit c) ⌝ }
+    ensures { λ r. ⌜ r ≡ digit c ⌝ }
 {
-    if is_decimal_digit(c) {
-        return (c - b'0') as u64;
-    }
-    let l = lower_case(c);
-    if l < b'a' {
+    if c < b'0' {
         return 10;
     }
-    (l - b'a') as u64 + 10
+    if c <= b'9' {
+        return (c - b'0') as u64;
+    }
+    if c < b'A' {
+        return 10;
+    }
+    if c <= b'Z' {
+        return (c - b'A') as u64 + 10;
+    }
+    if c < b'a' {
+        return 10;
+    }
+    (c - b'a') as u64 + 10
 }
 
 // The number that digits write: one that an i32 holds, or none.

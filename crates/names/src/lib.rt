@@ -1,4 +1,14 @@
-// Names: registers, segments, size words, directives and operations.
+// Names: registers, segments, size words, directives and operations. Case is ignored.
+// A word is looked up by its key: its letters as one number.
+ghost use mathlib.Core.Path.{_≡_};
+ghost use mathlib.Core.Bool.{true};
+ghost use mathlib.Core.List.{[], _∷_, map};
+ghost use Prim.Native.Nat.{ℕ, _+_, _*_, _<_};
+ghost use lib.ListN.{getD, drop};
+ghost use Rattle.lexer.specs.Text as text;
+ghost use Rattle.names.specs.Table.{operations};
+ghost use Rattle.names.specs.Names.{operationNamed, foundOf, nameOf, directiveOf};
+ghost use Rattle.names.specs.Keys as keys;
 
 // Seven letters, filled up with zeros, and the operation's number; the rows rise.
 const OPERATIONS: [u8; 936] = *b"\
@@ -142,57 +152,103 @@ pub enum Directive {
 }
 
 // The table, for a caller that looks many words up: a constant is written out anew at each use.
-pub fn table() -> [u8; 936] {
+pub fn table() -> [u8; 936]
+    ensures { λ r. ⌜ r ≡ operations ⌝ }
+{
     OPERATIONS
 }
 
-fn lower(c: u8) -> u8 {
-    if (65 <= c) & (c <= 90) { c + 32 } else { c }
+fn lower(c: u8) -> u8
+    ensures { λ r. ⌜ r ≡ text.lower c ⌝ }
+{
+    if c < 65 {
+        return c;
+    }
+    if 90 < c {
+        return c;
+    }
+    c + 32
 }
 
-// The letters of a word in lower case as one number, the first highest, filled up with zeros to seven.
-// 0 where the word can be no name: it has more than seven letters, or a zero among them.
-fn word_key(word: &[u8]) -> u64 {
+// The letter at a place of a word, in lower case, and 0 past its end.
+fn letter_at(word: &[u8], i: usize) -> u8
+    ensures { λ r. ⌜ r ≡ getD (map text.lower (now (word .entry))) i 0 ⌝ }
+{
+    if i < word.len() {
+        return lower(word[i]);
+    }
+    0
+}
+
+// Eight bytes as one number, the first highest. In this form the reads of a row become one.
+fn joined(a: u8, b: u8, c: u8, d: u8, e: u8, f: u8, g: u8, h: u8) -> u64
+    ensures { λ r. ⌜ r ≡ keys.joined 0 8 (a ∷ b ∷ c ∷ d ∷ e ∷ f ∷ g ∷ h ∷ []) ⌝ }
+{
+    let n = a as u64;
+    let n = n * 256 + b as u64;
+    let n = n * 256 + c as u64;
+    let n = n * 256 + d as u64;
+    let n = n * 256 + e as u64;
+    let n = n * 256 + f as u64;
+    let n = n * 256 + g as u64;
+    n * 256 + h as u64
+}
+
+// The key of a word, or 0 where the word can be no name: it is empty, has more than seven letters or ends in a zero.
+fn word_key(word: &[u8]) -> u64
+    ensures { λ r. ⌜ r ≡ keys.keyOf (map text.lower (now (word .entry))) ⌝ }
+{
+    if word.len() < 1 {
+        return 0;
+    }
     if 7 < word.len() {
         return 0;
     }
-    let mut key = 0;
-    let mut i = 0;
-    while i < word.len() {
-        let c = lower(word[i]);
-        if c == 0 {
-            return 0;
-        }
-        key = key * 256 + c as u64;
-        i += 1;
+    if letter_at(word, word.len() - 1) == 0 {
+        return 0;
     }
-    while i < 7 {
-        key = key * 256;
-        i += 1;
-    }
-    key
+    joined(
+        0,
+        letter_at(word, 0),
+        letter_at(word, 1),
+        letter_at(word, 2),
+        letter_at(word, 3),
+        letter_at(word, 4),
+        letter_at(word, 5),
+        letter_at(word, 6),
+    )
 }
 
-// The letters of a row as one number.
-fn row_key(table: &[u8; 936], row: usize) -> u64 {
+// A row's key with the operation's number behind it.
+fn row_at(table: &[u8; 936], row: usize) -> u64
+    requires { ⌜ row < 117 ⌝ }
+    ensures { λ r. ⌜ r ≡ keys.keyAt (now (table .entry)) row * 256 + getD (now (table .entry)) (8 * row + 7) 0 ⌝ }
+{
     let i = 8 * row;
-    (table[i] as u64) * 0x1_0000_0000_0000
-        + (table[i + 1] as u64) * 0x100_0000_0000
-        + (table[i + 2] as u64) * 0x1_0000_0000
-        + (table[i + 3] as u64) * 0x100_0000
-        + (table[i + 4] as u64) * 0x1_0000
-        + (table[i + 5] as u64) * 0x100
-        + (table[i + 6] as u64)
+    joined(
+        table[i],
+        table[i + 1],
+        table[i + 2],
+        table[i + 3],
+        table[i + 4],
+        table[i + 5],
+        table[i + 6],
+        table[i + 7],
+    )
 }
 
-// The last row whose key is not above key, or the first row.
-fn search(table: &[u8; 936], key: u64) -> usize {
+// The one row that may have the key.
+fn search(table: &[u8; 936], key: u64) -> usize
+    requires { ⌜ (keys.goodTable (now table) ≡ true) × (key < 0x100_0000_0000_0000) ⌝ }
+    ensures { λ r. ⌜ (r < 117) × ((k : ℕ) → k < 117 → keys.keyAt (now (table .entry)) k ≡ key → k ≡ r) ⌝ }
+{
+    let most = key * 256 + 255;
     let mut row = 0;
     let mut rows = 117;
     while 1 < rows {
         let half = rows / 2;
         let mid = row + half;
-        if row_key(table, mid) <= key {
+        if row_at(table, mid) <= most {
             row = mid;
         }
         rows = rows - half;
@@ -200,18 +256,23 @@ fn search(table: &[u8; 936], key: u64) -> usize {
     row
 }
 
-// The operation that a word names by a table whose rows rise.
-pub fn operation(table: &[u8; 936], word: &[u8]) -> Found {
+// The operation that a word names by a table whose rows are spellings in rising order.
+pub fn operation(table: &[u8; 936], word: &[u8]) -> Found
+    requires { ⌜ keys.goodTable (now table) ≡ true ⌝ }
+    ensures { λ r. ⌜ r ≡ foundOf (operationNamed (now (table .entry)) (now (word .entry))) ⌝ }
+{
     let key = word_key(word);
-    let row = search(table, key);
-    if row_key(table, row) == key {
-        return Found::Operation(table[8 * row + 7]);
+    let row = row_at(table, search(table, key));
+    if row / 256 == key {
+        return Found::Operation((row % 256) as u8);
     }
     Found::Nothing
 }
 
 // The register, segment or size that a word names.
-pub fn name_of(word: &[u8]) -> Name {
+pub fn name_of(word: &[u8]) -> Name
+    ensures { λ r. ⌜ r ≡ nameOf (now (word .entry)) ⌝ }
+{
     match word_key(word) {
         0x61_6c00_0000_0000 => Name::Register(0), // al
         0x63_6c00_0000_0000 => Name::Register(1), // cl
@@ -239,7 +300,10 @@ pub fn name_of(word: &[u8]) -> Name {
     }
 }
 
-pub fn directive_of(word: &[u8]) -> Directive {
+// The directive that a word names.
+pub fn directive_of(word: &[u8]) -> Directive
+    ensures { λ r. ⌜ r ≡ directiveOf (now (word .entry)) ⌝ }
+{
     match word_key(word) {
         0x65_7175_0000_0000 => Directive::Equ, // equ
         0x64_6200_0000_0000 => Directive::Db, // db
