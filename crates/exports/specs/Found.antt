@@ -18,41 +18,33 @@ use Rattle.names.specs.declared.Directive.{Directive}
 use Rattle.names.specs.declared.Directive.the-variants.{Equ, Db, Dw, Times, Other as other}
 use Rattle.exports.specs.declared.TokenFound.{TokenFound}
 
-abbrev pub literalKind : LiteralKind → ℕ
-literalKind (Number v) = number
-literalKind (Text true) = closed
-literalKind (Text false) = unclosed
+abbrev pub found : ℕ → ℤ → ℕ → TokenFound
+found kind value end = record { kind = kind; value = value; end = end }
 
--- A token's kind byte: a punctuation's is its character.
-abbrev pub tokenKind : Token → ℕ
-tokenKind (Whitespace n) = whitespace
-tokenKind (Identifier n) = identifier
-tokenKind (Literal n k) = literalKind k
-tokenKind (Punctuation n k) = character k
-tokenKind (Comment n) = comment
-tokenKind (NewLine n) = newLine
-tokenKind (EndOfFile n) = endOfFile
-tokenKind (Invalid n c) = invalid
+-- a token of a kind that needs no value
+abbrev pub plain : ℕ → ℕ → TokenFound
+plain kind end = found kind (pos 0) end
 
-abbrev pub literalValue : LiteralKind → ℤ
-literalValue (Number v) = v
-literalValue (Text t) = pos 0
+abbrev pub literalFound : LiteralKind → ℕ → TokenFound
+literalFound (Number v) end = found number v end
+literalFound (Text true) end = plain closed end
+literalFound (Text false) end = plain unclosed end
 
--- A number's value, an invalid token's byte, and else 0.
-abbrev pub tokenValue : Token → ℤ
-tokenValue (Whitespace n) = pos 0
-tokenValue (Identifier n) = pos 0
-tokenValue (Literal n k) = literalValue k
-tokenValue (Punctuation n k) = pos 0
-tokenValue (Comment n) = pos 0
-tokenValue (NewLine n) = pos 0
-tokenValue (EndOfFile n) = pos 0
-tokenValue (Invalid n c) = pos c
+-- A token that ends at a place: its kind byte, a punctuation's being its character; a number's value, an invalid token's byte, and else 0.
+abbrev pub tokenFound : Token → ℕ → TokenFound
+tokenFound (Whitespace n) end = plain whitespace end
+tokenFound (Identifier n) end = plain identifier end
+tokenFound (Literal n k) end = literalFound k end
+tokenFound (Punctuation n k) end = plain (character k) end
+tokenFound (Comment n) end = plain comment end
+tokenFound (NewLine n) end = plain newLine end
+tokenFound (EndOfFile n) end = plain endOfFile end
+tokenFound (Invalid n c) end = found invalid (pos c) end
 
 -- What the cursor answers. A refused number's kind is the refusal's number, 30 or 31.
-abbrev pub tokenFoundOf : Next → TokenFound
-tokenFoundOf (token t c) = record { kind = tokenKind t; value = tokenValue t; end = c .pos }
-tokenFoundOf (refused f from to) = record { kind = faultNumber f; value = pos 0; end = to }
+abbrev pub nextFound : Next → TokenFound
+nextFound (token t c) = tokenFound t (c .pos)
+nextFound (refused f from to) = plain (faultNumber f) to
 
 -- The operation that a word names, or 255.
 abbrev pub operationByte : Found → ℕ

@@ -14,7 +14,8 @@ ghost use Rattle.lexer.specs.Tokens.{tokenAt, faultNumber};
 ghost use Rattle.lexer.specs.Scanned.{nextOf, character};
 ghost use Rattle.names.specs.Table.{operations};
 ghost use Rattle.names.specs.Names.{operationNamed, foundOf, nameOf, directiveOf};
-ghost use Rattle.exports.specs.Found.{literalKind, tokenKind, literalValue, tokenValue, tokenFoundOf, operationByte, nameNumber, directiveByte};
+ghost use Rattle.exports.specs.Found as spec;
+ghost use Rattle.exports.specs.Found.{literalFound, tokenFound, nextFound, operationByte, nameNumber, directiveByte};
 
 // A token as numbers: its kind as in `lexer::Scanned`, a number's value or an invalid token's byte, and the place behind it.
 #[repr(C)]
@@ -43,54 +44,6 @@ fn punctuation(k: PunctuationKind) -> u8
     }
 }
 
-fn literal_kind(k: LiteralKind) -> u8
-    ensures { λ r. ⌜ r ≡ literalKind k ⌝ }
-{
-    match k {
-        LiteralKind::Number(v) => lexer::NUMBER,
-        LiteralKind::Text(t) => { if t { lexer::CLOSED } else { lexer::UNCLOSED } }
-    }
-}
-
-fn literal_value(k: LiteralKind) -> i32
-    ensures { λ r. ⌜ r ≡ literalValue k ⌝ }
-{
-    match k {
-        LiteralKind::Number(v) => v,
-        LiteralKind::Text(t) => 0,
-    }
-}
-
-fn token_kind(t: Token) -> u8
-    ensures { λ r. ⌜ r ≡ tokenKind t ⌝ }
-{
-    match t {
-        Token::Whitespace(n) => lexer::WHITESPACE,
-        Token::Identifier(n) => lexer::IDENTIFIER,
-        Token::Literal(n, k) => literal_kind(k),
-        Token::Punctuation(n, k) => punctuation(k),
-        Token::Comment(n) => lexer::COMMENT,
-        Token::NewLine(n) => lexer::NEW_LINE,
-        Token::EndOfFile(n) => lexer::END_OF_FILE,
-        Token::Invalid(n, c) => lexer::INVALID,
-    }
-}
-
-fn token_value(t: Token) -> i32
-    ensures { λ r. ⌜ r ≡ tokenValue t ⌝ }
-{
-    match t {
-        Token::Whitespace(n) => 0,
-        Token::Identifier(n) => 0,
-        Token::Literal(n, k) => literal_value(k),
-        Token::Punctuation(n, k) => 0,
-        Token::Comment(n) => 0,
-        Token::NewLine(n) => 0,
-        Token::EndOfFile(n) => 0,
-        Token::Invalid(n, c) => c as i32,
-    }
-}
-
 fn fault_number(f: Fault) -> u8
     ensures { λ r. ⌜ r ≡ faultNumber f ⌝ }
 {
@@ -100,31 +53,71 @@ fn fault_number(f: Fault) -> u8
     }
 }
 
-fn found_of(next: Next) -> TokenFound
-    ensures { λ r. ⌜ r ≡ tokenFoundOf next ⌝ }
+fn plain(kind: u8, end: usize) -> TokenFound
+    ensures { λ r. ⌜ r ≡ spec.plain kind end ⌝ }
+{
+    TokenFound {
+        kind: kind,
+        value: 0,
+        end: end,
+    }
+}
+
+fn literal_found(k: LiteralKind, end: usize) -> TokenFound
+    ensures { λ r. ⌜ r ≡ literalFound k end ⌝ }
+{
+    match k {
+        LiteralKind::Number(v) => TokenFound {
+            kind: lexer::NUMBER,
+            value: v,
+            end: end,
+        },
+        LiteralKind::Text(t) => {
+            if t {
+                plain(lexer::CLOSED, end)
+            } else {
+                plain(lexer::UNCLOSED, end)
+            }
+        }
+    }
+}
+
+fn token_at_end(t: Token, end: usize) -> TokenFound
+    ensures { λ r. ⌜ r ≡ tokenFound t end ⌝ }
+{
+    match t {
+        Token::Whitespace(n) => plain(lexer::WHITESPACE, end),
+        Token::Identifier(n) => plain(lexer::IDENTIFIER, end),
+        Token::Literal(n, k) => literal_found(k, end),
+        Token::Punctuation(n, k) => plain(punctuation(k), end),
+        Token::Comment(n) => plain(lexer::COMMENT, end),
+        Token::NewLine(n) => plain(lexer::NEW_LINE, end),
+        Token::EndOfFile(n) => plain(lexer::END_OF_FILE, end),
+        Token::Invalid(n, c) => TokenFound {
+            kind: lexer::INVALID,
+            value: c as i32,
+            end: end,
+        },
+    }
+}
+
+fn next_found(next: Next) -> TokenFound
+    ensures { λ r. ⌜ r ≡ nextFound next ⌝ }
 {
     match next {
-        Next::Token(t, c) => TokenFound {
-            kind: token_kind(t),
-            value: token_value(t),
-            end: c.pos,
-        },
-        Next::Refused(f, from, to) => TokenFound {
-            kind: fault_number(f),
-            value: 0,
-            end: to,
-        },
+        Next::Token(t, c) => token_at_end(t, c.pos),
+        Next::Refused(f, from, to) => plain(fault_number(f), to),
     }
 }
 
 // The token at a place, as the cursor reads it; a refused number has the kind 30 or 31.
 #[no_mangle]
 pub extern "C" fn laqhoncu_token(source: &[u8], place: usize) -> TokenFound
-    ensures { λ r. ⌜ r ≡ tokenFoundOf (nextOf place (tokenAt (drop place (now (source .entry))))) ⌝ }
+    ensures { λ r. ⌜ r ≡ nextFound (nextOf place (tokenAt (drop place (now (source .entry))))) ⌝ }
 {
     let cursor = Cursor { pos: place };
     let next = cursor.next_token(source);
-    found_of(next)
+    next_found(next)
 }
 
 fn operation_byte(f: Found) -> u8
