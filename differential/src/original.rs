@@ -1,6 +1,7 @@
 //! What the original says of a source, in the form of our answers: its trees as a listing, its errors as refusals, its panics
 //! as 30 to 34. The limits 3 and 5 are not the original's: see `limits`.
 use crate::answer::{record, Answer, Refusal};
+use crate::found::Found;
 use mrc_compiler::ast::{self, Expression, Line, Operand, Operands, Register, Value};
 use mrc_compiler::lexer::{Cursor, LiteralKind, PunctuationKind, Token};
 use mrc_compiler::parser::{Parser, ParserError};
@@ -308,17 +309,16 @@ pub fn read(source: &[u8]) -> Answer {
     }
 }
 
-/// A token of the original at a place: the kind byte of our flat token, its length and its value.
-/// A refused number has kind 30 or 31 and the length of its span.
-pub fn token_at(source: &str, place: usize) -> (u8, usize, u32) {
+/// The original's token at a place.
+pub fn token_at(source: &str, place: usize) -> Found {
     match caught(|| Cursor::new(&source[place..]).next_token()) {
         Ok(token) => {
             let (kind, value) = kind_of(&token);
-            (kind, token.len(), value)
+            Found { kind, length: token.len(), value }
         }
         Err(message) => {
-            let number = number_of_panic(&message);
-            (number, refused_number_end(source.as_bytes(), number, place) - place, 0)
+            let kind = number_of_panic(&message);
+            Found { kind, length: refused_number_end(source.as_bytes(), kind, place) - place, value: 0 }
         }
     }
 }

@@ -1,15 +1,7 @@
 //! Compares a token read with the original's `Cursor::next_token`.
+use crate::found::Found;
 use crate::original;
 use crate::sources::{self, Random};
-
-/// A token at a place: the kind byte of a flat token, the length, the value (the number's, or the stray byte itself).
-/// A refused number has kind 30 or 31.
-#[derive(Clone, Copy, Debug, PartialEq, Eq)]
-pub struct Found {
-    pub kind: u8,
-    pub length: usize,
-    pub value: u32,
-}
 
 /// A token read at a place of a source.
 pub trait TokenRead: FnMut(&[u8], usize) -> Found {}
@@ -28,8 +20,7 @@ impl<F: TokenRead> Compare<F> {
     }
 
     fn at(&mut self, source: &str, place: usize) -> Found {
-        let (kind, length, value) = original::token_at(source, place);
-        let expected = Found { kind, length, value };
+        let expected = original::token_at(source, place);
         let said = (self.ours)(source.as_bytes(), place);
         assert!(said == expected, "{source:?} at {place}\nexpected {expected:?}\nsaid     {said:?}");
         self.tokens += 1;

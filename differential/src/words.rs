@@ -1,20 +1,8 @@
 //! Compares the lookup of words with the original's `from_str`.
+use crate::found::{Named, NONE};
 use mrc_compiler::ast::{DataSize, Register, Segment};
 use mrc_compiler::operations::Operation;
 use std::str::FromStr;
-
-/// What a word names. 255 where it names none.
-#[derive(Clone, Copy, Debug, PartialEq, Eq)]
-pub struct Named {
-    /// the operation's number
-    pub operation: u8,
-    /// registers 0 to 15, segments 16 to 19, `byte` 20, `word` 21
-    pub name: u8,
-    /// `equ` 0, `db` 1, `dw` 2, `times` 3
-    pub directive: u8,
-}
-
-pub const NONE: u8 = 255;
 
 /// What the original makes of a word.
 pub fn original(word: &str) -> Named {

@@ -3,7 +3,7 @@
 use differential::answer::shown;
 use differential::answer::Refusal;
 use differential::reads::{on_a_large_stack, Compare};
-use differential::{limits, original, words};
+use differential::{limits, original, sources, words};
 
 #[test]
 fn samples_of_the_rules() {
@@ -74,4 +74,14 @@ fn walk_and_original_agree() {
             assert!(compare.refusals[number] > 20, "refusal {number} is met {} times only", compare.refusals[number]);
         }
     });
+}
+
+/// The inputs of the benchmark are sources that are read whole.
+#[test]
+fn benchmark_inputs_are_accepted() {
+    for text in [sources::marker_lines(65536), sources::code_lines(65536)] {
+        assert!((65400..=65536).contains(&text.len()));
+        let answer = limits::read(text.as_bytes());
+        assert!(answer.is_ok(), "{answer:?}");
+    }
 }
