@@ -1,7 +1,7 @@
 //! Compares a full read with the expected one on a source: answer, bytes written, and what must be left as it was.
 use crate::answer::{shown, Answer, Refusal};
 use crate::limits;
-use crate::sources::{self, Random};
+use crate::sources;
 
 /// A full read: writes the listing into the buffer and gives its length, or refuses.
 pub trait FullRead: FnMut(&[u8], &mut [u8]) -> Result<usize, Refusal> {}
@@ -68,31 +68,7 @@ impl<F: FullRead> Compare<F> {
 
     /// Every source of the usual run. `scale` 1 takes some seconds.
     pub fn all(&mut self, scale: u64) {
-        let extra = (scale > 1) as usize;
-        sources::each(&sources::TELLING_BYTES, 3 + extra, &mut |source| self.source(source));
-        sources::each(&sources::TELLING_PIECES, 3 + extra, &mut |source| self.source(source));
-        let mut text = Vec::new();
-        for head in ["mov ", "mov ax,", "equ "] {
-            sources::each(&sources::OPERAND_PIECES, 4 + extra, &mut |rest| {
-                text.clear();
-                text.extend_from_slice(head.as_bytes());
-                text.extend_from_slice(rest);
-                self.source(&text)
-            });
-        }
-        sources::behind_causes(&mut |source| self.source(source));
-        sources::long(&mut |source| self.source(source));
-        let mut random = Random::new(1);
-        for _ in 0..200_000 * scale {
-            let source = sources::grammar(&mut random);
-            self.source(&source);
-            let source = sources::changed(&mut random, &source);
-            self.source(&source);
-        }
-        for _ in 0..100_000 * scale {
-            let source = sources::noise(&mut random, 40);
-            self.source(&source);
-        }
+        sources::all(scale, &mut |source| self.source(source));
     }
 }
 

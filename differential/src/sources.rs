@@ -1,6 +1,33 @@
 //! Sources to compare on: all short ones over telling pieces, random ones by the grammar, changed ones, noise, and sources at
 //! the limits.
 
+/// Every source of the usual comparison of full reads: about a million, and more by `scale`.
+pub fn all(scale: u64, f: &mut impl FnMut(&[u8])) {
+    let extra = (scale > 1) as usize;
+    each(&TELLING_BYTES, 3 + extra, f);
+    each(&TELLING_PIECES, 3 + extra, f);
+    let mut text = Vec::new();
+    for head in ["mov ", "mov ax,", "equ "] {
+        each(&OPERAND_PIECES, 4 + extra, &mut |rest| {
+            text.clear();
+            text.extend_from_slice(head.as_bytes());
+            text.extend_from_slice(rest);
+            f(&text)
+        });
+    }
+    behind_causes(f);
+    long(f);
+    let mut random = Random::new(1);
+    for _ in 0..200_000 * scale {
+        let source = grammar(&mut random);
+        f(&source);
+        f(&changed(&mut random, &source));
+    }
+    for _ in 0..100_000 * scale {
+        f(&noise(&mut random, 40));
+    }
+}
+
 /// xorshift64*: the same sources in every run.
 #[derive(Clone)]
 pub struct Random(u64);
@@ -319,7 +346,7 @@ pub fn behind_causes(f: &mut impl FnMut(&[u8])) {
 /// Long sources: at and around 65,536 bytes, deep beyond every limit, long rows of one thing.
 pub fn long(f: &mut impl FnMut(&[u8])) {
     for length in [65535, 65536, 65537, 70000] {
-        for unit in ["a", "\n", " ", ";", "a\n", "in-1\n", "nop\n", "db 1\n", "times 1 a\n", "1", "equ 1+2*3\n", "'"] {
+        for unit in ["a", "\n", " ", ";", "a\n", "in-1\n", "nop\n", "db 1\n", "times 1 a\n", "equ 1+2*3\n"] {
             let mut text = unit.repeat(length / unit.len() + 1);
             text.truncate(length);
             f(text.as_bytes());
@@ -334,6 +361,8 @@ pub fn long(f: &mut impl FnMut(&[u8])) {
         f(format!("db {}", "1,".repeat(count)).as_bytes());
         f(format!("db '{}'", "x".repeat(count)).as_bytes());
         f("times 1 ".repeat(count / 20).as_bytes());
+        f("1".repeat(count / 4).as_bytes());
+        f("'".repeat(count / 4).as_bytes());
         f(format!("{}a", "\n".repeat(count)).as_bytes());
         f("\u{e9}".repeat(count).as_bytes());
     }
