@@ -182,7 +182,7 @@ fn letter_at(word: &[u8], i: usize) -> u8
 
 // Eight bytes as one number, the first highest. In this form the reads of a row become one.
 fn joined(a: u8, b: u8, c: u8, d: u8, e: u8, f: u8, g: u8, h: u8) -> u64
-    ensures { λ r. ⌜ r ≡ keys.joined 0 8 (a ∷ b ∷ c ∷ d ∷ e ∷ f ∷ g ∷ h ∷ []) ⌝ }
+    ensures { λ r. ⌜ (r ≡ keys.joined 0 8 (a ∷ b ∷ c ∷ d ∷ e ∷ f ∷ g ∷ h ∷ [])) × (h < 256) ⌝ }
 {
     let n = a as u64;
     let n = n * 256 + b as u64;
@@ -192,6 +192,22 @@ fn joined(a: u8, b: u8, c: u8, d: u8, e: u8, f: u8, g: u8, h: u8) -> u64
     let n = n * 256 + f as u64;
     let n = n * 256 + g as u64;
     n * 256 + h as u64
+}
+
+// The first seven letters of a word as one number.
+fn letters(word: &[u8]) -> u64
+    ensures { λ r. ⌜ r ≡ keys.seven (map text.lower (now (word .entry))) ⌝ }
+{
+    joined(
+        0,
+        letter_at(word, 0),
+        letter_at(word, 1),
+        letter_at(word, 2),
+        letter_at(word, 3),
+        letter_at(word, 4),
+        letter_at(word, 5),
+        letter_at(word, 6),
+    )
 }
 
 // The key of a word, or 0 where the word can be no name: it is empty, has more than seven letters or ends in a zero.
@@ -207,22 +223,13 @@ fn word_key(word: &[u8]) -> u64
     if letter_at(word, word.len() - 1) == 0 {
         return 0;
     }
-    joined(
-        0,
-        letter_at(word, 0),
-        letter_at(word, 1),
-        letter_at(word, 2),
-        letter_at(word, 3),
-        letter_at(word, 4),
-        letter_at(word, 5),
-        letter_at(word, 6),
-    )
+    letters(word)
 }
 
-// A row's key with the operation's number behind it.
+// The eight bytes of a row as one number: its key, and the operation's number behind it.
 fn row_at(table: &[u8; 936], row: usize) -> u64
     requires { ⌜ row < 117 ⌝ }
-    ensures { λ r. ⌜ r ≡ keys.keyAt (now (table .entry)) row * 256 + getD (now (table .entry)) (8 * row + 7) 0 ⌝ }
+    ensures { λ r. ⌜ (r ≡ keys.eight (now (table .entry)) (8 * row)) × (getD (now (table .entry)) (8 * row + 7) 0 < 256) ⌝ }
 {
     let i = 8 * row;
     joined(
