@@ -67,7 +67,7 @@ fn walk_and_original_agree() {
         });
         assert!(accepted > 100_000, "only {accepted} sources are accepted");
         for number in [1, 2, 3, 5, 10, 11, 12, 13, 14, 15, 16, 17, 20, 21, 22, 23, 24, 25, 26, 30, 31, 32, 33, 34] {
-            assert!(met[number] > 20, "refusal {number} is met {} times only", met[number]);
+            assert!(met[number] > 10, "refusal {number} is met {} times only", met[number]);
         }
     });
 }

@@ -2,7 +2,7 @@
 use borrow.Author.Needs.{needs}
 use mathlib.Core.Path.{ap, _∙_}
 use Rattle.names.specs.Keys.{goodTable}
-use Rattle.names.proofs.Good.{good-operations}
+use Rattle.names.proofs.Operations.{operations-good}
 use Rattle.exports.proofs.laqhoncu_operation.Statement.{statement}
 use Rattle.exports.proofs.laqhoncu_operation.Tie as tie
 use Rattle.exports.proofs.laqhoncu_operation.Reads as reads
@@ -15,7 +15,7 @@ table-requires : tie.Need-table-requires
 table-requires c κs = search needs
 
 operation-requires : tie.Need-operation-requires
-operation-requires c κs = ap goodTable (c .before .table .ensures) ∙ good-operations
+operation-requires c κs = ap goodTable (c .before .table .ensures) ∙ operations-good
 
 operation-byte-requires : tie.Need-operation-byte-requires
 operation-byte-requires c κs = search needs
