@@ -1,5 +1,10 @@
 -- The table is the one that the definition names, and that one is good.
 use borrow.Author.Needs.{needs}
+use mathlib.Core.List.{List}
+use Prim.Native.Nat.{ℕ}
+use denote.Ref.{now}
+use Rattle.names.specs.Names.{operationNamed, foundOf}
+use Rattle.exports.specs.Found.{operationByte}
 use mathlib.Core.Path.{ap, _∙_}
 use Rattle.names.specs.Keys.{goodTable}
 use Rattle.names.proofs.Operations.{operations-good}
@@ -21,7 +26,9 @@ operation-byte-requires : tie.Need-operation-byte-requires
 operation-byte-requires c κs = search needs
 
 returns : tie.Need-returns
-returns c = search needs
+returns c =
+    c .operation-byte .ensures ∙ ap operationByte (c .before .operation .ensures) ∙
+    ap (λ (t : List ℕ). operationByte (foundOf (operationNamed t (now (c .before .before .before .before .before .args .word))))) (c .before .before .before .table .ensures)
 
 pub laqhoncu-operation-spec : {M : Type 1} → statement M
 laqhoncu-operation-spec =

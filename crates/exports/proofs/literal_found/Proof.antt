@@ -28,17 +28,17 @@ plain-requires-2 : tie.Need-plain-requires-2
 plain-requires-2 c κs = search needs
 
 returns : tie.Need-returns
-returns c = 
+returns c =
     ap (λ (v : ℤ). found number v (c .before .before .before .args .end)) (toZ-ofZ {w = w32} {z = c .before .k .given .0 .0} (record { sfits = c .known-told .given .0 .1 })) ∙
     ap (λ (k : LiteralKind). literalFound k (c .before .before .before .args .end)) (sym (c .before .k .given .1))
 
 returns-2 : tie.Need-returns-2
-returns-2 c = 
+returns-2 c =
     c .plain .ensures ∙ ap (λ (t : Bool). literalFound (Text t) (c .before .before .before .before .before .args .end)) (sym (c .before .if1 .taken)) ∙
     ap (λ (k : LiteralKind). literalFound k (c .before .before .before .before .before .args .end)) (sym (c .before .before .before .k2 .given .1))
 
 returns-3 : tie.Need-returns-3
-returns-3 c = 
+returns-3 c =
     c .plain2 .ensures ∙ ap (λ (t : Bool). literalFound (Text t) (c .before .before .before .before .before .args .end)) (sym (c .before .if1 .left)) ∙
     ap (λ (k : LiteralKind). literalFound k (c .before .before .before .before .before .args .end)) (sym (c .before .before .before .k2 .given .1))
 
