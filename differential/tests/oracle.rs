@@ -72,12 +72,53 @@ fn walk_and_original_agree() {
     });
 }
 
-/// The inputs of the benchmark are sources that are read whole.
+/// The sample that the repository ships, and the inputs of the benchmark, are sources that are read whole.
 #[test]
-fn benchmark_inputs_are_accepted() {
+fn samples_are_accepted() {
+    let sample = limits::read(include_bytes!("../../samples/welds.asm"));
+    assert!(sample.is_ok(), "{sample:?}");
     for text in [sources::marker_lines(65536), sources::code_lines(65536)] {
         assert!((65400..=65536).contains(&text.len()));
         let answer = limits::read(text.as_bytes());
         assert!(answer.is_ok(), "{answer:?}");
+    }
+}
+
+/// What docs/DIFFERENCES.md says of the original and the manual's mnemonics.
+#[test]
+fn differences_from_the_manual() {
+    let unknown = ["sal", "repe", "repz", "xlat", "movs", "cmps", "scas", "lods", "stos", "seg", "segment"];
+    for word in unknown {
+        assert_eq!(words::original(word).operation, 255, "{word}");
+    }
+    let not_the_manuals = ["ssb", "int1", "salc", "int3", "xlatb", "cmpsb", "cmpsw", "scasb", "scasw", "lodsb", "lodsw", "stosb", "stosw"];
+    for word in not_the_manuals {
+        assert_ne!(words::original(word).operation, 255, "{word}");
+    }
+    // Every word of the manual's list but those above, a space between two.
+    let manual = "aaa aad aam aas adc add and call cbw clc cld cli cmc cmp cwd daa das dec div esc hlt idiv imul in inc int into \
+        iret ja jnbe jae jnb jb jnae jbe jna jc jcxz je jz jg jnle jge jnl jl jnge jle jng jmp jnc jne jnz jno jnp jpo jns jo jp \
+        jpe js lahf lds lea les lock loop loope loopz loopne loopnz mov movsb movsw mul neg nop not or out pop popf push pushf \
+        rcl rcr rep repne repnz ret rol ror sahf sar sbb shl shr stc std sti sub test wait xchg xor";
+    let mut known: Vec<&str> = manual.split_whitespace().collect();
+    for word in &known {
+        assert_ne!(words::original(word).operation, 255, "{word}");
+    }
+    known.extend(not_the_manuals);
+    known.sort();
+    let mut spellings = words::spellings();
+    spellings.sort();
+    assert_eq!(known, spellings);
+    // `lock` is read as an instruction of its own: what follows it is its operand.
+    for (source, expected) in [
+        ("lock", "ST 0;LI 0 4 96 0 4 4;END 2"),
+        ("lock xchg ax,bx", "REF 11 10 12 255 255"),
+        ("lock\nxchg ax,bx", "ST 0;LI 0 4 96 0 4 4;ST 5;OR 10 12 8;OR 13 15 11;LI 5 15 3 2 10 15;END 6"),
+        ("sal ax,1", "REF 20 6 7 255 255"),
+        ("repe cmpsb", "ST 0;LL 0 4;ST 5;LI 5 10 50 0 10 10;END 4"),
+        ("xlat", "ST 0;LL 0 4;END 2"),
+    ] {
+        let said = shown(&original::read(source.as_bytes())).trim_end().replace('\n', ";");
+        assert_eq!(said, expected, "{source:?}");
     }
 }
