@@ -19,11 +19,23 @@ impl Refusal {
 /// The bytes of the listing, or why there is none.
 pub type Answer = Result<Vec<u8>, Refusal>;
 
-/// A record opens with its mark; each field has four bytes, low first.
-pub fn record(listing: &mut Vec<u8>, mark: &str, fields: &[u32]) {
-    listing.extend_from_slice(mark.as_bytes());
-    for field in fields {
-        listing.extend_from_slice(&field.to_le_bytes());
+/// A listing that is being written; spans are moved by `base`.
+pub struct Listing {
+    pub bytes: Vec<u8>,
+    pub base: usize,
+}
+
+impl Listing {
+    pub fn span(&self, span: &std::ops::Range<usize>) -> [u32; 2] {
+        [(self.base + span.start) as u32, (self.base + span.end) as u32]
+    }
+
+    /// A record opens with its mark; each field has four bytes, low first.
+    pub fn record(&mut self, mark: &str, fields: &[u32]) {
+        self.bytes.extend_from_slice(mark.as_bytes());
+        for field in fields {
+            self.bytes.extend_from_slice(&field.to_le_bytes());
+        }
     }
 }
 

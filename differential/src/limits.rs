@@ -34,9 +34,30 @@ fn near(source: &[u8]) -> bool {
 
 /// The first refusal in reading order under these limits. Only the spans of 3 and 5 are meant.
 pub fn walk(source: &str, depth: usize, nesting: usize) -> Option<Refusal> {
-    let (seen, refused) = original::tokens(source);
-    let mut walk = Walk { source, seen, refused: refused.map(|(number, _)| number), at: 0, depth, nesting };
+    let mut walk = Walk::new(source, depth, nesting);
     walk.source().err()
+}
+
+/// The statement read at a place: its records and the place of the token ahead, or None where none is left.
+pub fn read_statement(source: &[u8], place: usize) -> Result<Option<(Vec<u8>, usize)>, Refusal> {
+    let said = original::read_statement(source, place);
+    let rest = match original::lent(source) {
+        Ok(text) if place <= text.len() => &text[place..],
+        _ => return said.map(|_| unreachable!()),
+    };
+    let mut walk = Walk::new(rest, DEPTH, NESTING);
+    match walk.go(0).and_then(|()| walk.statement(NESTING)) {
+        Err(met) if matches!(met.number, 3 | 5) => Err(Refusal { from: met.from + place, to: met.to + place, ..met }),
+        Err(met) => {
+            assert_eq!(Some(met.number), said.as_ref().err().map(|r| r.number), "{rest:?}");
+            said.map(|_| unreachable!())
+        }
+        Ok(false) => {
+            assert_eq!(said, Ok(Vec::new()), "{rest:?}");
+            Ok(None)
+        }
+        Ok(true) => Ok(Some((said?, place + walk.place()))),
+    }
 }
 
 struct Walk<'a> {
@@ -51,6 +72,16 @@ struct Walk<'a> {
 type Step<T = ()> = Result<T, Refusal>;
 
 impl<'a> Walk<'a> {
+    fn new(source: &'a str, depth: usize, nesting: usize) -> Self {
+        let (seen, refused) = original::tokens(source);
+        Self { source, seen, refused: refused.map(|(number, _)| number), at: 0, depth, nesting }
+    }
+
+    /// Where the token ahead begins; the end of file is at the source's end.
+    fn place(&self) -> usize {
+        self.seen.get(self.at).map_or(self.source.len(), |placed| placed.from)
+    }
+
     fn kind(&self) -> u8 {
         self.seen.get(self.at).map_or(0, |placed| kind_of(&placed.token).0)
     }

@@ -1,6 +1,6 @@
 //! What the original says of a source, in the form of our answers: its trees as a listing, its errors as refusals, its panics
 //! as 30 to 34. The limits 3 and 5 are not the original's: see `limits`.
-use crate::answer::{record, Answer, Refusal};
+use crate::answer::{Answer, Listing, Refusal};
 use crate::found::Found;
 use mrc_compiler::ast::{self, Expression, Line, Operand, Operands, Register, Value};
 use mrc_compiler::lexer::{Cursor, LiteralKind, PunctuationKind, Token};
@@ -120,58 +120,58 @@ fn refusal_of(error: &ParserError) -> Refusal {
     }
 }
 
-fn put_expression(out: &mut Vec<u8>, expression: &Expression) {
-    let (f, t) = (expression.span().start as u32, expression.span().end as u32);
+fn put_expression(out: &mut Listing, expression: &Expression) {
+    let [f, t] = out.span(expression.span());
     match expression {
         Expression::PrefixOperator(_, operator, right) => {
             put_expression(out, right);
-            record(out, "PF", &[f, t, *operator as u32]);
+            out.record("PF", &[f, t, *operator as u32]);
         }
         Expression::InfixOperator(_, operator, left, right) => {
             put_expression(out, left);
             put_expression(out, right);
-            record(out, "IN", &[f, t, *operator as u32]);
+            out.record("IN", &[f, t, *operator as u32]);
         }
-        Expression::Value(_, Value::Constant(value)) => record(out, "VC", &[f, t, *value as u32]),
-        Expression::Value(_, Value::Label(_)) => record(out, "VL", &[f, t]),
-        Expression::Value(_, Value::InstructionStart) => record(out, "VI", &[f, t]),
-        Expression::Value(_, Value::SectionStart) => record(out, "VS", &[f, t]),
+        Expression::Value(_, Value::Constant(value)) => out.record("VC", &[f, t, *value as u32]),
+        Expression::Value(_, Value::Label(_)) => out.record("VL", &[f, t]),
+        Expression::Value(_, Value::InstructionStart) => out.record("VI", &[f, t]),
+        Expression::Value(_, Value::SectionStart) => out.record("VS", &[f, t]),
     }
 }
 
-fn put_operand(out: &mut Vec<u8>, operand: &Operand) {
-    let (f, t) = (operand.span().start as u32, operand.span().end as u32);
+fn put_operand(out: &mut Listing, operand: &Operand) {
+    let [f, t] = out.span(operand.span());
     let size_of = |size: &Option<ast::DataSize>| size.map_or(0, |size| 1 + size as u32);
     let segment_of = |segment: &Option<ast::Segment>| segment.map_or(0, |segment| 1 + segment.encoding() as u32);
     match operand {
         Operand::Immediate(_, expression) => {
             put_expression(out, expression);
-            record(out, "OI", &[f, t]);
+            out.record("OI", &[f, t]);
         }
         Operand::Direct(_, expression, size, segment) => {
             put_expression(out, expression);
-            record(out, "OD", &[f, t, size_of(size), segment_of(segment)]);
+            out.record("OD", &[f, t, size_of(size), segment_of(segment)]);
         }
         Operand::Indirect(_, encoding, displacement, size, segment) => {
             displacement.iter().for_each(|expression| put_expression(out, expression));
             let has = displacement.is_some() as u32;
-            record(out, "OX", &[f, t, encoding.encoding() as u32, has, size_of(size), segment_of(segment)]);
+            out.record("OX", &[f, t, encoding.encoding() as u32, has, size_of(size), segment_of(segment)]);
         }
         // The original holds the offset first; the source has the segment first.
         Operand::Far(_, offset, segment) => {
             put_expression(out, segment);
             put_expression(out, offset);
-            record(out, "OF", &[f, t]);
+            out.record("OF", &[f, t]);
         }
-        Operand::Register(_, register) => record(out, "OR", &[f, t, number_of_register(register) as u32]),
-        Operand::Segment(_, segment) => record(out, "OS", &[f, t, segment.encoding() as u32]),
+        Operand::Register(_, register) => out.record("OR", &[f, t, number_of_register(register) as u32]),
+        Operand::Segment(_, segment) => out.record("OS", &[f, t, segment.encoding() as u32]),
     }
 }
 
-fn put_line(out: &mut Vec<u8>, line: &Line) {
-    let (f, t) = (line.span().start as u32, line.span().end as u32);
+fn put_line(out: &mut Listing, line: &Line) {
+    let [f, t] = out.span(line.span());
     match line {
-        Line::Label(_) => record(out, "LL", &[f, t]),
+        Line::Label(_) => out.record("LL", &[f, t]),
         Line::Instruction(instruction) => {
             let count = match &instruction.operands {
                 Operands::None(_) => 0,
@@ -185,22 +185,21 @@ fn put_line(out: &mut Vec<u8>, line: &Line) {
                     2
                 }
             };
-            let span = instruction.operands.span();
-            let operation = instruction.operation as u32;
-            record(out, "LI", &[f, t, operation, count, span.start as u32, span.end as u32]);
+            let [from, to] = out.span(instruction.operands.span());
+            out.record("LI", &[f, t, instruction.operation as u32, count, from, to]);
         }
         Line::Data(_, bytes) => {
-            record(out, "LD", &[f, t, bytes.len() as u32]);
-            out.extend_from_slice(bytes);
+            out.record("LD", &[f, t, bytes.len() as u32]);
+            out.bytes.extend_from_slice(bytes);
         }
         Line::Constant(_, expression) => {
             put_expression(out, expression);
-            record(out, "LC", &[f, t]);
+            out.record("LC", &[f, t]);
         }
         Line::Times(_, count, content) => {
             put_expression(out, count);
             put_line(out, content);
-            record(out, "LT", &[0, 0]);
+            out.record("LT", &[0, 0]);
         }
     }
 }
@@ -222,26 +221,31 @@ fn place_of(seen: &[Placed], line: &Line) -> usize {
     }
 }
 
-/// The original, run over the whole source: Err(message) where it panicked.
-fn run(source: &str) -> Result<Result<Vec<Line>, ParserError>, String> {
+/// How much of a source is read.
+#[derive(Clone, Copy, PartialEq)]
+enum Part {
+    Whole,
+    OneStatement,
+}
+
+/// The original, run over a source: Err(message) where it panicked.
+fn run(source: &str, part: Part) -> Result<Result<Vec<Line>, ParserError>, String> {
     caught(|| {
         let mut parser = Parser::new(source);
         let mut lines = Vec::new();
         while let Some(line) = parser.parse_line()? {
             lines.push(line);
+            if part == Part::OneStatement {
+                break;
+            }
         }
         Ok(lines)
     })
 }
 
-/// The number of the panic that this source ends in.
-fn panics_with(source: &str) -> Option<u8> {
-    run(source).err().map(|message| number_of_panic(&message))
-}
-
 /// The place of a panic, found from outside: 30 and 31 are at the first refused number; 32 and 33 at the shortest run of
 /// tokens that panics so; 34 at the innermost `times` once a content is put behind the source.
-fn span_of_panic(source: &str, number: u8) -> (usize, usize) {
+fn span_of_panic(source: &str, part: Part, number: u8) -> (usize, usize) {
     let (seen, refused) = tokens(source);
     if let 30 | 31 = number {
         let (found, from) = refused.unwrap();
@@ -249,7 +253,7 @@ fn span_of_panic(source: &str, number: u8) -> (usize, usize) {
         return (from, refused_number_end(source.as_bytes(), number, from));
     }
     if number == 34 {
-        let lines = run(&format!("{source}\nx")).unwrap().unwrap();
+        let lines = run(&format!("{source}\nx"), part).unwrap().unwrap();
         let mut innermost = lines.last().unwrap();
         loop {
             let Line::Times(_, count, content) = innermost else { panic!("no `times` at the end") };
@@ -263,10 +267,11 @@ fn span_of_panic(source: &str, number: u8) -> (usize, usize) {
         }
     }
     // The shorter a run of tokens, the less is read: what panics at some length panics at every longer one.
+    let panics_so = |end: usize| run(&source[..end], part).is_err_and(|message| number_of_panic(&message) == number);
     let (mut without, mut with) = (0, seen.len());
     while without + 1 < with {
         let middle = (without + with) / 2;
-        if panics_with(&source[..seen[middle - 1].to]) == Some(number) {
+        if panics_so(seen[middle - 1].to) {
             with = middle;
         } else {
             without = middle;
@@ -280,33 +285,55 @@ fn span_of_panic(source: &str, number: u8) -> (usize, usize) {
     (seen[first].from, seen[last].to)
 }
 
-/// The full read as the original does it. Sources beyond 65,536 bytes (1) or with a byte above 127 (2) are not the original's.
-pub fn read(source: &[u8]) -> Answer {
+/// What the original makes of the part of a source from a place on; places count from the source's first byte.
+fn read_part(source: &str, place: usize, part: Part) -> Answer {
+    let rest = &source[place..];
+    let moved = |r: Refusal| match r.number {
+        22 => r, // it has no place
+        _ => Refusal { from: r.from + place, to: r.to + place, ..r },
+    };
+    match run(rest, part) {
+        Ok(Ok(lines)) => {
+            let times = lines.iter().any(|line| matches!(line, Line::Times(..)));
+            let seen = if times { tokens(rest).0 } else { Vec::new() };
+            let mut listing = Listing { bytes: Vec::new(), base: place };
+            for line in &lines {
+                listing.record("ST", &[(place + place_of(&seen, line)) as u32]);
+                put_line(&mut listing, line);
+            }
+            Ok(listing.bytes)
+        }
+        Ok(Err(error)) => Err(moved(refusal_of(&error))),
+        Err(message) => {
+            let number = number_of_panic(&message);
+            let (from, to) = span_of_panic(rest, part, number);
+            Err(moved(Refusal::at(number, from, to)))
+        }
+    }
+}
+
+/// The source as the original takes it. Those beyond 65,536 bytes (1) or with a byte above 127 (2) are not the original's.
+pub fn lent(source: &[u8]) -> Result<&str, Refusal> {
     if source.len() > 65536 {
         return Err(Refusal::at(1, 0, 0));
     }
-    if let Some(at) = source.iter().position(|b| *b > 127) {
-        return Err(Refusal::at(2, at, at + 1));
+    match source.iter().position(|b| *b > 127) {
+        Some(at) => Err(Refusal::at(2, at, at + 1)),
+        None => Ok(std::str::from_utf8(source).unwrap()),
     }
-    let source = std::str::from_utf8(source).unwrap();
-    match run(source) {
-        Ok(Ok(lines)) => {
-            let times = lines.iter().any(|line| matches!(line, Line::Times(..)));
-            let seen = if times { tokens(source).0 } else { Vec::new() };
-            let mut listing = Vec::new();
-            for line in &lines {
-                record(&mut listing, "ST", &[place_of(&seen, line) as u32]);
-                put_line(&mut listing, line);
-            }
-            Ok(listing)
-        }
-        Ok(Err(error)) => Err(refusal_of(&error)),
-        Err(message) => {
-            let number = number_of_panic(&message);
-            let (from, to) = span_of_panic(source, number);
-            Err(Refusal::at(number, from, to))
-        }
+}
+
+/// The full read as the original does it.
+pub fn read(source: &[u8]) -> Answer {
+    read_part(lent(source)?, 0, Part::Whole)
+}
+
+/// The records of the statement at a place, as the original would read it there; empty where none is left.
+pub fn read_statement(source: &[u8], place: usize) -> Answer {
+    if place > source.len() {
+        return Err(Refusal::at(42, 0, 0));
     }
+    read_part(lent(source)?, place, Part::OneStatement)
 }
 
 /// The original's token at a place.

@@ -72,6 +72,66 @@ impl<F: FullRead> Compare<F> {
     }
 }
 
+/// A statement read: the length of what was written and the place of the token ahead, None where no statement is left.
+pub type StatementAnswer = Result<Option<(usize, usize)>, Refusal>;
+
+/// Compares a statement read with the expected one at places of a source.
+pub struct CompareStatements<F> {
+    ours: F,
+    pub reads: u64,
+    pub written: u64,
+    pub none_left: u64,
+}
+
+impl<F: FnMut(&[u8], usize, &mut [u8]) -> StatementAnswer> CompareStatements<F> {
+    pub fn new(ours: F) -> Self {
+        Self { ours, reads: 0, written: 0, none_left: 0 }
+    }
+
+    /// Panics with both answers where they differ.
+    pub fn at(&mut self, source: &[u8], place: usize) {
+        let expected = limits::read_statement(source, place);
+        self.reads += 1;
+        match &expected {
+            Ok(Some((listing, _))) => {
+                self.written += 1;
+                self.with_room(source, place, &expected, listing.len());
+                self.with_room(source, place, &Err(Refusal::at(4, 0, 0)), listing.len() - 1);
+            }
+            Ok(None) => self.none_left += 1,
+            Err(_) => self.with_room(source, place, &expected, 0),
+        }
+        self.with_room(source, place, &expected, 18 * source.len() + 3);
+    }
+
+    fn with_room(&mut self, source: &[u8], place: usize, expected: &Result<Option<(Vec<u8>, usize)>, Refusal>, room: usize) {
+        let mut buffer = vec![UNTOUCHED; room];
+        let answer = (self.ours)(source, place, &mut buffer);
+        let said = answer.map(|read| read.map(|(length, ahead)| (buffer[..length].to_vec(), ahead)));
+        let text = String::from_utf8_lossy(source);
+        assert!(said == *expected, "{text:?} at {place}\nlent {room} bytes\nexpected {expected:?}\nsaid {said:?}");
+        let written = said.ok().flatten().map_or(0, |(listing, _)| listing.len());
+        assert!(buffer[written..].iter().all(|b| *b == UNTOUCHED), "wrote beyond its result: {text:?} at {place}");
+    }
+
+    /// Short sources at every place and one beyond, longer ones at a few.
+    pub fn all(&mut self, scale: u64) {
+        let mut turn = 0;
+        sources::all(scale, &mut |source| {
+            turn += 1;
+            if source.len() > 4096 {
+                self.at(source, 0);
+                self.at(source, source.len() / 2);
+                self.at(source, source.len());
+            } else if turn % 8 == 0 && source.len() < 64 {
+                (0..=source.len() + 1).for_each(|place| self.at(source, place));
+            } else if turn % 4 == 0 {
+                self.at(source, turn % (source.len() + 2));
+            }
+        });
+    }
+}
+
 /// Runs `f` on a stack on which the original's recursion has room.
 pub fn on_a_large_stack<T: Send>(f: impl FnOnce() -> T + Send) -> T {
     std::thread::scope(|scope| {
