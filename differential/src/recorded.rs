@@ -1,4 +1,5 @@
 //! Recorded answers of the original, for where it is not there: a line for each source, its text escaped, a tab, the answer.
+use crate::answer::{shown, Answer};
 use crate::found::{Found, Named};
 use crate::sources::{self, Random};
 
@@ -37,6 +38,12 @@ pub fn entries(list: &str) -> impl Iterator<Item = (Vec<u8>, &str)> {
 
 pub const TOKENS: &str = include_str!("../recorded/tokens.txt");
 pub const WORDS: &str = include_str!("../recorded/words.txt");
+pub const READS: &str = include_str!("../recorded/reads.txt");
+
+/// An answer on one line: its records, or its refusal, as the program `listing` prints them.
+pub fn read_of(answer: &Answer) -> String {
+    shown(answer).trim_end().replace('\n', "; ")
+}
 
 /// All tokens of a source, each `kind:length:value`, up to the end of file or a refused number.
 pub fn tokens_of(source: &[u8], read: &mut impl FnMut(&[u8], usize) -> Found) -> String {
@@ -72,6 +79,25 @@ pub fn token_sources() -> Vec<Vec<u8>> {
         let source = sources::grammar(&mut random);
         list.push(sources::changed(&mut random, &source));
         list.push(source);
+    }
+    list
+}
+
+/// What is recorded of full reads: every cause, with nothing and with a refused number behind it, at the limits too; sources by
+/// the grammar; the shipped sample.
+pub fn read_sources() -> Vec<Vec<u8>> {
+    let mut list = vec![include_bytes!("../../samples/welds.asm").to_vec()];
+    for (i, cause) in sources::causes().into_iter().enumerate() {
+        // Of the many at the limits, some.
+        if cause.len() < 24 || i % 7 == 0 {
+            list.push(format!("k equ 2\n{cause}\n{}", sources::REFUSED[i % 4]).into_bytes());
+            list.push(format!("{cause} {}", sources::REFUSED[i / 4 % 4]).into_bytes());
+            list.push(cause.into_bytes());
+        }
+    }
+    let mut random = Random::new(5);
+    for _ in 0..300 {
+        list.push(sources::grammar(&mut random));
     }
     list
 }

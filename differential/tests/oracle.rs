@@ -2,7 +2,7 @@
 #![cfg(original)]
 use differential::answer::shown;
 use differential::reads::on_a_large_stack;
-use differential::{limits, original, sources, words};
+use differential::{limits, original, recorded, sources, words};
 
 #[test]
 fn samples_of_the_rules() {
@@ -120,5 +120,22 @@ fn differences_from_the_manual() {
     ] {
         let said = shown(&original::read(source.as_bytes())).trim_end().replace('\n', ";");
         assert_eq!(said, expected, "{source:?}");
+    }
+}
+
+/// The recorded answers are the original's.
+#[test]
+fn recorded_answers() {
+    let text = |bytes: &[u8]| String::from_utf8(bytes.to_vec()).unwrap();
+    for (source, expected) in recorded::entries(recorded::TOKENS) {
+        let said = recorded::tokens_of(&source, &mut |source, place| original::token_at(&text(source), place));
+        assert_eq!(said, expected, "{}", recorded::escaped(&source));
+    }
+    for (word, expected) in recorded::entries(recorded::WORDS) {
+        let said = recorded::names_of(&word, &mut |word| words::original(&text(word)));
+        assert_eq!(said, expected, "{}", recorded::escaped(&word));
+    }
+    for (source, expected) in recorded::entries(recorded::READS) {
+        assert_eq!(recorded::read_of(&limits::read(&source)), expected, "{}", recorded::escaped(&source));
     }
 }

@@ -32,13 +32,8 @@ fn main() {
 
 #[cfg(all(library, original))]
 fn with_original(long: bool) {
-    use differential::{original, tokens, words};
+    use differential::{tokens, words};
 
-    for (source, expected) in recorded::entries(recorded::TOKENS) {
-        let said =
-            recorded::tokens_of(&source, &mut |source, place| original::token_at(std::str::from_utf8(source).unwrap(), place));
-        assert!(said == expected, "the recorded list is not the original's: {:?}", recorded::escaped(&source));
-    }
     let mut compare = tokens::Compare::new(ours::token);
     compare.all(if long { 10 } else { 1 });
     let [larger_digit, too_large] = compare.refused;

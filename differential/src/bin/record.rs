@@ -1,8 +1,8 @@
 //! Writes the recorded answers from the original: `cargo run --release --bin record`, in this folder.
 #[cfg(original)]
 fn main() {
-    use differential::recorded::{escaped, names_of, token_sources, tokens_of};
-    use differential::{original, words};
+    use differential::recorded::{escaped, names_of, read_of, read_sources, token_sources, tokens_of};
+    use differential::{limits, original, words};
     use std::fs::write;
 
     let mut list = String::new();
@@ -20,6 +20,12 @@ fn main() {
         }
     }
     write("recorded/words.txt", list).unwrap();
+
+    let mut list = String::new();
+    for source in read_sources() {
+        list += &format!("{}\t{}\n", escaped(&source), read_of(&limits::read(&source)));
+    }
+    write("recorded/reads.txt", list).unwrap();
 }
 
 #[cfg(not(original))]
