@@ -40,7 +40,7 @@ impl Listing {
 }
 
 /// How many fields follow a mark.
-fn fields_of(mark: &[u8]) -> Option<usize> {
+pub fn fields_of(mark: &[u8]) -> Option<usize> {
     Some(match mark {
         b"ST" => 1,
         b"VL" | b"VI" | b"VS" | b"OI" | b"OF" | b"LL" | b"LC" | b"LT" => 2,

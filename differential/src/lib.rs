@@ -9,6 +9,8 @@ pub mod original;
 #[cfg(library)]
 pub mod ours;
 #[cfg(original)]
+pub mod patches;
+#[cfg(original)]
 pub mod reads;
 pub mod recorded;
 pub mod sources;

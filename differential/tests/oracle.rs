@@ -2,7 +2,7 @@
 #![cfg(original)]
 use differential::answer::shown;
 use differential::reads::on_a_large_stack;
-use differential::{limits, original, recorded, sources, words};
+use differential::{limits, original, patches, recorded, sources, words};
 
 #[test]
 fn samples_of_the_rules() {
@@ -137,5 +137,42 @@ fn recorded_answers() {
     }
     for (source, expected) in recorded::entries(recorded::READS) {
         assert_eq!(recorded::read_of(&limits::read(&source)), expected, "{}", recorded::escaped(&source));
+    }
+}
+
+/// The rule of the patch gives what the full read of the edited source gives, wherever the old source is accepted, its listing
+/// is its own, and no line leaves a `times` open. Listings of full reads are well-formed.
+#[test]
+fn patch_rule_and_full_read_agree() {
+    let (mut accepted, mut refused, mut met) = (0, 0, [0; 64]);
+    patches::calls(100_000, &mut |call| {
+        let said = patches::expected(call, usize::MAX, usize::MAX);
+        if let Err(refusal) = &said {
+            met[refusal.number as usize] += 1;
+        }
+        let own = limits::read(call.source);
+        if let Ok(listing) = &own {
+            assert!(patches::well_formed(listing, call.source.len()));
+        }
+        if own.is_err() || own.unwrap() != call.listing {
+            return;
+        }
+        match said {
+            Ok((edited, listing)) => {
+                accepted += 1;
+                assert_eq!(limits::read(&edited), Ok(listing), "{:?}", String::from_utf8_lossy(&edited));
+            }
+            Err(refusal) if !matches!(refusal.number, 40 | 42 | 43) => {
+                refused += 1;
+                let end = call.place + call.source[call.place..].iter().take_while(|b| **b != b'\n').count();
+                let edited = [&call.source[..call.place], call.text, &call.source[end..]].concat();
+                assert_eq!(limits::read(&edited), Err(refusal), "{:?}", String::from_utf8_lossy(&edited));
+            }
+            Err(_) => {}
+        }
+    });
+    assert!(accepted > 10_000 && refused > 10_000, "{accepted} and {refused}");
+    for number in [2, 40, 41, 42, 43] {
+        assert!(met[number] > 20, "refusal {number} is met {} times only", met[number]);
     }
 }
