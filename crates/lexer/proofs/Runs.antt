@@ -2,15 +2,16 @@
 use Prim.Native.Nat.{ℕ, zero, suc, _+_, _*_, _-_, _≤_, _<_}
 use mathlib.Core.Path.{_≡_, refl, sym, ap, _∙_}
 use mathlib.Core.List.{List, [], _∷_}
-use mathlib.Core.Bool.{Bool, true, false, _&&_, and-false}
+use mathlib.Core.Bool.{Bool, true, false, _&&_, _||_, and-false}
+use mathlib.Core.Logic.{_⊎_, inl, inr, ⊎-elim}
 use native.Mathlib.Nat.{add-zero, add-suc, suc-add, le-refl, le-trans, le-mul-of-pos-right}
 use native.Mathlib.Numerals.{add-one}
 use native.Mathlib.Omega.{arith}
 use lib.Dec.{leb, ltb}
 use lib.ListN.{length, getD, take, drop, drop-of-length-le}
 use lib.Seq.{drop-cons}
-use borrow.Author.Tests.{le-leb, lt-leb, lt-ltb, le-ltb}
-use Rattle.lexer.specs.Text.{if_then_else_, run, all, digit, valueFrom}
+use borrow.Author.Tests.{le-leb, lt-leb, leb-true, lt-ltb, le-ltb}
+use Rattle.lexer.specs.Text.{if_then_else_, within, isDigit, isHexDigit, run, all, digit, valueFrom, openText}
 use Rattle.lexer.specs.Tokens.{largest}
 use Rattle.lexer.specs.Runs.{valuedFrom}
 use Rattle.lexer.specs.declared.text.Value.the-variants.{Fits, Beyond}
@@ -104,3 +105,56 @@ module _ (v base : ℕ) where
   pub valued-end : v ≤ 2147483647 → Fits v ≡ valuedFrom v base []
   unfolding valuedFrom valueFrom all largest
   valued-end h = rw (le-leb v 2147483647 h)
+
+-- Each class of digits is below its base.
+both : (a b : Bool) → (a && b) ≡ true → (a ≡ true) × (b ≡ true)
+both true b h = (refl, h)
+both false b h = let z : _≡_ {A = ℕ} 0 1 = cc in absurd (omega arith)
+
+one-of : (a b : Bool) → (a || b) ≡ true → (a ≡ true) ⊎ (b ≡ true)
+one-of true b h = inl refl
+one-of false b h = inr h
+
+numeric : (z c : ℕ) → z ≤ 57 → (leb 48 c && leb c z) ≡ true → digit c < z - 47
+unfolding openText
+numeric z c l h =
+    let w = both (leb 48 c) (leb c z) h in
+    let low : 48 ≤ c = leb-true 48 c (w .0) in
+    let high : c ≤ z = leb-true c z (w .1) in
+    simp (w .0, le-leb c 57 (omega arith)) (omega arith)
+
+pub binary-digit : (c : ℕ) → within "0" "1" c ≡ true → digit c < 2
+unfolding within
+binary-digit c h = numeric 49 c (omega arith) h
+
+pub octal-digit : (c : ℕ) → within "0" "7" c ≡ true → digit c < 8
+unfolding within
+octal-digit c h = numeric 55 c (omega arith) h
+
+pub decimal-digit : (c : ℕ) → isDigit c ≡ true → digit c < 10
+unfolding isDigit within
+decimal-digit c h = numeric 57 c (omega arith) h
+
+small : (c : ℕ) → within "a" "f" c ≡ true → digit c < 16
+unfolding openText
+small c h =
+    let w = both (leb 97 c) (leb c 102) h in
+    let low : 97 ≤ c = leb-true 97 c (w .0) in
+    let high : c ≤ 102 = leb-true c 102 (w .1) in
+    simp (le-leb 48 c (omega arith), lt-leb c 57 (omega arith), le-leb 65 c (omega arith), lt-leb c 90 (omega arith)) (omega arith)
+
+capital : (c : ℕ) → within "A" "F" c ≡ true → digit c < 16
+unfolding openText
+capital c h =
+    let w = both (leb 65 c) (leb c 70) h in
+    let low : 65 ≤ c = leb-true 65 c (w .0) in
+    let high : c ≤ 70 = leb-true c 70 (w .1) in
+    simp (le-leb 48 c (omega arith), lt-leb c 57 (omega arith), w .0, le-leb c 90 (omega arith)) (omega arith)
+
+pub hexadecimal-digit : (c : ℕ) → isHexDigit c ≡ true → digit c < 16
+unfolding isHexDigit
+hexadecimal-digit c h =
+    ⊎-elim
+    (λ w. ⊎-elim (λ d. let l = decimal-digit c d in omega arith) (small c) (one-of (isDigit c) (within "a" "f" c) w))
+    (capital c)
+    (one-of (isDigit c || within "a" "f" c) (within "A" "F" c) h)

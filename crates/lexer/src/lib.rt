@@ -8,7 +8,7 @@ ghost use Rattle.lexer.specs.Tokens.{tokenAt, numberAt, suffixed, prefix
 ghost use Rattle.lexer.specs.Runs.{belongs};
 ghost use Rattle.lexer.specs.Scanned.{isMark, scannedOf, tokenOf, nextOf};
 
-use text::{Class, Value, from_radix, is_decimal_digit, is_identifier_first, is_letter, is_whitespace, run_end};
+use text::{Class, Value, char_at, from_radix, is_decimal_digit, is_identifier_first, is_letter, is_whitespace, run_end};
 
 mod text;
 
@@ -77,7 +77,7 @@ pub const TOO_LARGE: u8 = 31;
 
 // The digits of a base and a class behind the prefix that stands at `at`.
 fn number_literal_with_prefix(source: &[u8], at: usize, base: u64, class: Class) -> Scanned
-    requires { ⌜ (at + 2 ≤ length (now source)) × (1 ≤ base) × (base ≤ 16) × ((c : ℕ) → belongs class c ≡ true → digit c < base) ⌝ }
+    requires { ⌜ (at < length (now source)) × (1 ≤ base) × (base ≤ 16) × ((c : ℕ) → belongs class c ≡ true → digit c < base) ⌝ }
     ensures { λ r. ⌜ r ≡ scannedOf at (prefixed base (belongs class) (drop (at + 2) (now (source .entry)))) ⌝ }
 {
     let from = at + 2;
@@ -93,12 +93,12 @@ fn number_literal_with_prefix(source: &[u8], at: usize, base: u64, class: Class)
         Value::Fits(v) => Scanned {
             kind: NUMBER,
             value: v,
-            end: end,
+            end,
         },
         Value::Beyond => Scanned {
             kind: TOO_LARGE,
             value: 0,
-            end: end,
+            end,
         },
     }
 }
@@ -112,7 +112,7 @@ fn number_literal(source: &[u8], at: usize, to: usize, base: u64, end: usize) ->
         Value::Fits(v) => Scanned {
             kind: NUMBER,
             value: v,
-            end: end,
+            end,
         },
         Value::Beyond => Scanned {
             kind: INVALID,
@@ -134,7 +134,7 @@ fn number_literal_with_suffix(source: &[u8], at: usize) -> Scanned
             return Scanned {
                 kind: LARGER_DIGIT,
                 value: 0,
-                end: end,
+                end,
             };
         }
         return number_literal(source, at, last, 2, end);
@@ -142,14 +142,12 @@ fn number_literal_with_suffix(source: &[u8], at: usize) -> Scanned
     if is_letter(suffix, b'd', b'D') {
         return number_literal(source, at, last, 10, end);
     }
-    if end < source.len() {
-        let after = source[end];
-        if is_letter(after, b'o', b'O') {
-            return number_literal(source, at, end, 8, end + 1);
-        }
-        if is_letter(after, b'h', b'H') {
-            return number_literal(source, at, end, 16, end + 1);
-        }
+    let after = char_at(source, end);
+    if is_letter(after, b'o', b'O') {
+        return number_literal(source, at, end, 8, end + 1);
+    }
+    if is_letter(after, b'h', b'H') {
+        return number_literal(source, at, end, 16, end + 1);
     }
     number_literal(source, at, end, 10, end)
 }
@@ -158,22 +156,21 @@ fn number(source: &[u8], at: usize, first: u8) -> Scanned
     requires { ⌜ (at < length (now source)) × (first ≡ getD (now source) at 0) × (isDigit first ≡ true) ⌝ }
     ensures { λ r. ⌜ r ≡ scannedOf at (numberAt first (drop (suc at) (now (source .entry)))) ⌝ }
 {
-    if first == b'0' {
-        if at + 1 < source.len() {
-            let second = source[at + 1];
-            if second == b'b' {
-                return number_literal_with_prefix(source, at, 2, Class::Binary);
-            }
-            if second == b'o' {
-                return number_literal_with_prefix(source, at, 8, Class::Octal);
-            }
-            if second == b'd' {
-                return number_literal_with_prefix(source, at, 10, Class::Decimal);
-            }
-            if second == b'x' {
-                return number_literal_with_prefix(source, at, 16, Class::Hexadecimal);
-            }
-        }
+    if first != b'0' {
+        return number_literal_with_suffix(source, at);
+    }
+    let second = char_at(source, at + 1);
+    if second == b'b' {
+        return number_literal_with_prefix(source, at, 2, Class::Binary);
+    }
+    if second == b'o' {
+        return number_literal_with_prefix(source, at, 8, Class::Octal);
+    }
+    if second == b'd' {
+        return number_literal_with_prefix(source, at, 10, Class::Decimal);
+    }
+    if second == b'x' {
+        return number_literal_with_prefix(source, at, 16, Class::Hexadecimal);
     }
     number_literal_with_suffix(source, at)
 }
@@ -183,19 +180,18 @@ fn string_literal(source: &[u8], at: usize) -> Scanned
     ensures { λ r. ⌜ r ≡ scannedOf at (stringAfter (drop (suc at) (now (source .entry)))) ⌝ }
 {
     let end = run_end(source, at + 1, Class::Quoted);
-    if end < source.len() {
-        if source[end] == b'\'' {
-            return Scanned {
-                kind: CLOSED,
-                value: 0,
-                end: end + 1,
-            };
-        }
+    let after = char_at(source, end);
+    if after == b'\'' {
+        return Scanned {
+            kind: CLOSED,
+            value: 0,
+            end: end + 1,
+        };
     }
     Scanned {
         kind: UNCLOSED,
         value: 0,
-        end: end,
+        end,
     }
 }
 
@@ -222,7 +218,7 @@ pub fn scan(source: &[u8], at: usize) -> Scanned
         return Scanned {
             kind: COMMENT,
             value: 0,
-            end: end,
+            end,
         };
     }
     if is_whitespace(c) {
@@ -230,7 +226,7 @@ pub fn scan(source: &[u8], at: usize) -> Scanned
         return Scanned {
             kind: WHITESPACE,
             value: 0,
-            end: end,
+            end,
         };
     }
     if is_decimal_digit(c) {
@@ -241,7 +237,7 @@ pub fn scan(source: &[u8], at: usize) -> Scanned
         return Scanned {
             kind: IDENTIFIER,
             value: 0,
-            end: end,
+            end,
         };
     }
     if c == b'\'' {

@@ -3,7 +3,7 @@ ghost use mathlib.Core.Path.{_≡_};
 ghost use mathlib.Core.Bool.{_||_};
 ghost use Prim.Native.Nat.{ℕ, _+_, _-_, _≤_, _<_};
 ghost use lib.Dec.{eqb};
-ghost use lib.ListN.{length, take, drop};
+ghost use lib.ListN.{length, take, drop, getD};
 ghost use Rattle.lexer.specs.Text.{within, isBlank, isDigit, isHexDigit, isLetter, isWordPart, digit, run};
 ghost use Rattle.lexer.specs.Runs.{belongs, valuedFrom};
 
@@ -54,6 +54,13 @@ pub fn is_letter(c: u8, small: u8, capital: u8) -> bool
     ensures { λ r. ⌜ r ≡ (eqb c small || eqb c capital) ⌝ }
 {
     (c == small) | (c == capital)
+}
+
+// The byte at a place, or 0 where there is none.
+pub fn char_at(source: &[u8], index: usize) -> u8
+    ensures { λ r. ⌜ r ≡ getD (now (source .entry)) index 0 ⌝ }
+{
+    if index < source.len() { source[index] } else { 0 }
 }
 
 // The classes that runs are made of. `Quoted` is what stands between quotes, `Comment` what stands behind a semicolon.

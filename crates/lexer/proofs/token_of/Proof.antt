@@ -1,100 +1,133 @@
+-- Each kind computes, and the rest is none of them.
+use Prim.Native.Nat.{_%_}
+use mathlib.Core.Path.{ap}
+use borrow.Author.Tests.{ne-eqb}
+use mir.Syntax.{w32}
+use mir.Facts.{toZ-ofZ}
+use lib.IntN.{ℤ, pos}
+use Rattle.lexer.specs.Scanned.{tokenOf}
+use Rattle.lexer.specs.declared.LiteralKind.the-variants.{Number}
+use Rattle.lexer.specs.declared.Token.the-variants.{Literal}
 use borrow.Author.Needs.{needs}
 use Rattle.lexer.proofs.token_of.Statement.{statement}
 use Rattle.lexer.proofs.token_of.Tie as tie
 use Rattle.lexer.proofs.token_of.Reads as reads
 use Rattle.lexer.proofs.token_of.Lts as lts
 
--- src/lib.rt:281:57
 cast-t6 : tie.Need-cast-t6
 cast-t6 c = search needs
 
--- src/lib.rt:296:32
 cast-t23 : tie.Need-cast-t23
 cast-t23 c = search needs
 
--- src/lib.rt:272:1
 returns : tie.Need-returns
-returns c = ?
+unfolding tokenOf
+returns c = rw (c .match .keys1)
 
--- src/lib.rt:272:1
 returns-2 : tie.Need-returns-2
-returns-2 c = ?
+unfolding tokenOf
+returns-2 c = rw (c .match .keys2)
 
--- src/lib.rt:272:1
 returns-3 : tie.Need-returns-3
-returns-3 c = ?
+unfolding tokenOf
+returns-3 c = rw (c .match .keys3)
 
--- src/lib.rt:272:1
 returns-4 : tie.Need-returns-4
-returns-4 c = ?
+unfolding tokenOf
+returns-4 c = rw (c .match .keys4)
 
--- src/lib.rt:272:1
 returns-5 : tie.Need-returns-5
-returns-5 c = ?
+unfolding tokenOf
+returns-5 c = rw (c .match .keys5)
 
--- src/lib.rt:272:1
 returns-6 : tie.Need-returns-6
-returns-6 c = ?
+unfolding tokenOf
+returns-6 c = 
+    let a = c .before .args in
+    rw (c .match .keys6) (ap (λ (z : ℤ). Literal (a .n) (Number z)) (toZ-ofZ {w = w32} {z = pos (a .value % 2147483648)} (record { sfits = search needs })))
 
--- src/lib.rt:272:1
 returns-7 : tie.Need-returns-7
-returns-7 c = ?
+unfolding tokenOf
+returns-7 c = rw (c .match .keys7)
 
--- src/lib.rt:272:1
 returns-8 : tie.Need-returns-8
-returns-8 c = ?
+unfolding tokenOf
+returns-8 c = rw (c .match .keys8)
 
--- src/lib.rt:272:1
 returns-9 : tie.Need-returns-9
-returns-9 c = ?
+unfolding tokenOf
+returns-9 c = rw (c .match .keys9)
 
--- src/lib.rt:272:1
 returns-10 : tie.Need-returns-10
-returns-10 c = ?
+unfolding tokenOf
+returns-10 c = rw (c .match .keys10)
 
--- src/lib.rt:272:1
 returns-11 : tie.Need-returns-11
-returns-11 c = ?
+unfolding tokenOf
+returns-11 c = rw (c .match .keys11)
 
--- src/lib.rt:272:1
 returns-12 : tie.Need-returns-12
-returns-12 c = ?
+unfolding tokenOf
+returns-12 c = rw (c .match .keys12)
 
--- src/lib.rt:272:1
 returns-13 : tie.Need-returns-13
-returns-13 c = ?
+unfolding tokenOf
+returns-13 c = rw (c .match .keys13)
 
--- src/lib.rt:272:1
 returns-14 : tie.Need-returns-14
-returns-14 c = ?
+unfolding tokenOf
+returns-14 c = rw (c .match .keys14)
 
--- src/lib.rt:272:1
 returns-15 : tie.Need-returns-15
-returns-15 c = ?
+unfolding tokenOf
+returns-15 c = rw (c .match .keys15)
 
--- src/lib.rt:272:1
 returns-16 : tie.Need-returns-16
-returns-16 c = ?
+unfolding tokenOf
+returns-16 c = rw (c .match .keys16)
 
--- src/lib.rt:272:1
 returns-17 : tie.Need-returns-17
-returns-17 c = ?
+unfolding tokenOf
+returns-17 c = rw (c .match .keys17)
 
--- src/lib.rt:272:1
 returns-18 : tie.Need-returns-18
-returns-18 c = ?
+unfolding tokenOf
+returns-18 c = rw (c .match .keys18)
 
--- src/lib.rt:272:1
 returns-19 : tie.Need-returns-19
-returns-19 c = ?
+unfolding tokenOf
+returns-19 c = rw (c .match .keys19)
 
--- src/lib.rt:272:1
 returns-20 : tie.Need-returns-20
-returns-20 c = ?
+unfolding tokenOf
+returns-20 c = rw (c .match .keys20)
 
--- src/lib.rt:272:1
 returns-21 : tie.Need-returns-21
-returns-21 c = ?
+unfolding tokenOf
+returns-21 c = 
+    let r = c .match .rest in
+    simp (
+      ne-eqb _ _ (r .1),
+      ne-eqb _ _ (r .0 .1),
+      ne-eqb _ _ (r .0 .0 .1),
+      ne-eqb _ _ (r .0 .0 .0 .1),
+      ne-eqb _ _ (r .0 .0 .0 .0 .1),
+      ne-eqb _ _ (r .0 .0 .0 .0 .0 .1),
+      ne-eqb _ _ (r .0 .0 .0 .0 .0 .0 .1),
+      ne-eqb _ _ (r .0 .0 .0 .0 .0 .0 .0 .1),
+      ne-eqb _ _ (r .0 .0 .0 .0 .0 .0 .0 .0 .1),
+      ne-eqb _ _ (r .0 .0 .0 .0 .0 .0 .0 .0 .0 .1),
+      ne-eqb _ _ (r .0 .0 .0 .0 .0 .0 .0 .0 .0 .0 .1),
+      ne-eqb _ _ (r .0 .0 .0 .0 .0 .0 .0 .0 .0 .0 .0 .1),
+      ne-eqb _ _ (r .0 .0 .0 .0 .0 .0 .0 .0 .0 .0 .0 .0 .1),
+      ne-eqb _ _ (r .0 .0 .0 .0 .0 .0 .0 .0 .0 .0 .0 .0 .0 .1),
+      ne-eqb _ _ (r .0 .0 .0 .0 .0 .0 .0 .0 .0 .0 .0 .0 .0 .0 .1),
+      ne-eqb _ _ (r .0 .0 .0 .0 .0 .0 .0 .0 .0 .0 .0 .0 .0 .0 .0 .1),
+      ne-eqb _ _ (r .0 .0 .0 .0 .0 .0 .0 .0 .0 .0 .0 .0 .0 .0 .0 .0 .1),
+      ne-eqb _ _ (r .0 .0 .0 .0 .0 .0 .0 .0 .0 .0 .0 .0 .0 .0 .0 .0 .0 .1),
+      ne-eqb _ _ (r .0 .0 .0 .0 .0 .0 .0 .0 .0 .0 .0 .0 .0 .0 .0 .0 .0 .0 .1),
+      ne-eqb _ _ (r .0 .0 .0 .0 .0 .0 .0 .0 .0 .0 .0 .0 .0 .0 .0 .0 .0 .0 .0 .1),
+    )
 
 pub token-of-spec : {M : Type 1} → statement M
 token-of-spec =
