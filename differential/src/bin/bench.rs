@@ -17,7 +17,6 @@ fn main() {
     let rounds = std::env::args().nth(1).map_or(200, |word| word.parse().unwrap());
     println!("best of {rounds} rounds, ours and the original's in turn (median in brackets)\n");
     for (title, text) in [("marker lines", sources::marker_lines(65536)), ("code lines", sources::code_lines(65536))] {
-        let mut tokens = 0;
         let by_ours = || {
             let (mut place, mut count) = (0, 0u64);
             loop {
@@ -38,8 +37,9 @@ fn main() {
                 }
             }
         };
-        assert_eq!(by_ours(), by_original());
-        let (ours, original) = in_turn(rounds, || tokens = by_ours(), || drop(by_original()));
+        let tokens = by_ours();
+        assert_eq!(tokens, by_original());
+        let (ours, original) = in_turn(rounds, by_ours, by_original);
         println!("{title}: {} bytes, {tokens} tokens", text.len());
         for (who, time) in [("ours", ours), ("original", original)] {
             println!(
@@ -63,25 +63,33 @@ fn main() {
         };
         let (ours_operation, original_operation) = in_turn(
             rounds,
-            || words.iter().for_each(|word| drop(black_box(ours::operation(word.as_bytes())))),
-            || words.iter().for_each(|word| drop(black_box(Operation::from_str(word)))),
+            || each(&words, |word| ours::operation(word.as_bytes())),
+            || each(&words, Operation::from_str),
         );
         let (ours_name, original_name) = in_turn(
             rounds,
-            || words.iter().for_each(|word| drop(black_box(ours::name(word.as_bytes())))),
-            || words.iter().for_each(|word| drop(black_box(name(word)))),
+            || each(&words, |word| ours::name(word.as_bytes())),
+            || each(&words, name),
         );
         println!("  names: {} words", words.len());
         for (who, time) in [
-            ("ours, operation", ours_operation),
+            ("ours, operation (makes the table)", ours_operation),
             ("original, operation", original_operation),
             ("ours, register, segment or size", ours_name),
             ("original, register, segment or size", original_name),
         ] {
-            let each = |seconds: f64| seconds / words.len() as f64 * 1e9;
-            println!("    {who:36} {:6.1} ns a word  (median {:6.1})", each(time.best), each(time.median));
+            let share = |seconds: f64| seconds / words.len() as f64 * 1e9;
+            println!("    {who:36} {:6.1} ns a word  (median {:6.1})", share(time.best), share(time.median));
         }
         println!();
+    }
+}
+
+/// Looks every word up.
+#[cfg(all(library, original))]
+fn each<T>(words: &[&str], look: impl Fn(&str) -> T) {
+    for word in words {
+        std::hint::black_box(look(word));
     }
 }
 
@@ -93,22 +101,24 @@ struct Time {
 
 /// Times both in seconds, one round of each in turn.
 #[cfg(all(library, original))]
-fn in_turn(rounds: usize, mut a: impl FnMut(), mut b: impl FnMut()) -> (Time, Time) {
-    let timed = |f: &mut dyn FnMut()| {
-        let begun = std::time::Instant::now();
-        f();
-        begun.elapsed().as_secs_f64()
-    };
+fn in_turn<A, B>(rounds: usize, a: impl Fn() -> A, b: impl Fn() -> B) -> (Time, Time) {
     let (mut of_a, mut of_b) = (Vec::new(), Vec::new());
     for _ in 0..rounds {
-        of_a.push(timed(&mut a));
-        of_b.push(timed(&mut b));
+        of_a.push(timed(&a));
+        of_b.push(timed(&b));
     }
     let time = |mut list: Vec<f64>| {
         list.sort_by(f64::total_cmp);
         Time { best: list[0], median: list[list.len() / 2] }
     };
     (time(of_a), time(of_b))
+}
+
+#[cfg(all(library, original))]
+fn timed<T>(f: impl Fn() -> T) -> f64 {
+    let begun = std::time::Instant::now();
+    std::hint::black_box(f());
+    begun.elapsed().as_secs_f64()
 }
 
 /// The words of a text, as the lexer finds them.
