@@ -4,11 +4,11 @@ ghost use mathlib.Core.Bool.{true};
 ghost use Prim.Native.Nat.{ℕ, suc, _+_, _-_, _≤_, _<_};
 ghost use lib.ListN.{length, take, drop, getD};
 ghost use Rattle.lexer.specs.Text.{isDigit, digit};
-ghost use Rattle.lexer.specs.Tokens.{tokenAt, numberAt, suffixed, prefixed, digits, stringAfter};
-ghost use Rattle.lexer.specs.Runs.{belongs};
+ghost use Rattle.lexer.specs.Tokens.{tokenAt, numberAt, suffixed, prefixed, digits};
+ghost use Rattle.lexer.specs.Runs.{belongs, afterZero};
 ghost use Rattle.lexer.specs.Scanned.{isMark, scannedOf, tokenOf, nextOf};
 
-use text::{Class, Value, char_at, from_radix, is_decimal_digit, is_identifier_first, is_letter, is_whitespace, run_end};
+use text::{BLANK, QUOTED, REMARK, UP_TO_ONE, Value, WORD, char_at, from_radix, is_decimal_digit, is_identifier_first, is_letter, is_whitespace, run_end};
 
 mod text;
 
@@ -75,13 +75,13 @@ pub const INVALID: u8 = b'!';
 pub const LARGER_DIGIT: u8 = 30;
 pub const TOO_LARGE: u8 = 31;
 
-// The digits of a base and a class behind the prefix that stands at `at`.
-fn number_literal_with_prefix(source: &[u8], at: usize, base: u64, class: Class) -> Scanned
-    requires { ⌜ (at < length (now source)) × (1 ≤ base) × (base ≤ 16) × ((c : ℕ) → belongs class c ≡ true → digit c < base) ⌝ }
-    ensures { λ r. ⌜ r ≡ scannedOf at (prefixed base (belongs class) (drop (at + 2) (now (source .entry)))) ⌝ }
+// The digits of a base behind the prefix that stands at `at`.
+fn number_literal_with_prefix(source: &[u8], at: usize, base: u8) -> Scanned
+    requires { ⌜ (at < length (now source)) × (1 ≤ base) × (base ≤ 16) × ((c : ℕ) → belongs base c ≡ true → digit c < base) ⌝ }
+    ensures { λ r. ⌜ r ≡ scannedOf at (prefixed base (belongs base) (drop (at + 2) (now (source .entry)))) ⌝ }
 {
     let from = at + 2;
-    let end = run_end(source, from, class);
+    let end = run_end(source, from, base);
     if end == from {
         return Scanned {
             kind: NUMBER,
@@ -89,7 +89,7 @@ fn number_literal_with_prefix(source: &[u8], at: usize, base: u64, class: Class)
             end: at + 1,
         };
     }
-    match from_radix(source, from, end, base) {
+    match from_radix(source, from, end, base as u64) {
         Value::Fits(v) => Scanned {
             kind: NUMBER,
             value: v,
@@ -126,11 +126,11 @@ fn number_literal_with_suffix(source: &[u8], at: usize) -> Scanned
     requires { ⌜ (at < length (now source)) × (isDigit (getD (now source) at 0) ≡ true) ⌝ }
     ensures { λ r. ⌜ r ≡ scannedOf at (suffixed (getD (now (source .entry)) at 0) (drop (suc at) (now (source .entry)))) ⌝ }
 {
-    let end = run_end(source, at, Class::Hexadecimal);
+    let end = run_end(source, at, 16);
     let last = end - 1;
     let suffix = source[last];
     if is_letter(suffix, b'b', b'B') {
-        if run_end(source, at, Class::UpToOne) < last {
+        if run_end(source, at, UP_TO_ONE) < last {
             return Scanned {
                 kind: LARGER_DIGIT,
                 value: 0,
@@ -152,53 +152,42 @@ fn number_literal_with_suffix(source: &[u8], at: usize) -> Scanned
     number_literal(source, at, end, 10, end)
 }
 
+// The byte behind a leading zero, or 0.
+fn after_zero(source: &[u8], at: usize, first: u8) -> u8
+    requires { ⌜ at < length (now source) ⌝ }
+    ensures { λ r. ⌜ r ≡ afterZero first (getD (now (source .entry)) (at + 1) 0) ⌝ }
+{
+    if first == b'0' {
+        char_at(source, at + 1)
+    } else {
+        0
+    }
+}
+
 fn number(source: &[u8], at: usize, first: u8) -> Scanned
     requires { ⌜ (at < length (now source)) × (first ≡ getD (now source) at 0) × (isDigit first ≡ true) ⌝ }
     ensures { λ r. ⌜ r ≡ scannedOf at (numberAt first (drop (suc at) (now (source .entry)))) ⌝ }
 {
-    if first != b'0' {
-        return number_literal_with_suffix(source, at);
-    }
-    let second = char_at(source, at + 1);
+    let second = after_zero(source, at, first);
     if second == b'b' {
-        return number_literal_with_prefix(source, at, 2, Class::Binary);
+        return number_literal_with_prefix(source, at, 2);
     }
     if second == b'o' {
-        return number_literal_with_prefix(source, at, 8, Class::Octal);
+        return number_literal_with_prefix(source, at, 8);
     }
     if second == b'd' {
-        return number_literal_with_prefix(source, at, 10, Class::Decimal);
+        return number_literal_with_prefix(source, at, 10);
     }
     if second == b'x' {
-        return number_literal_with_prefix(source, at, 16, Class::Hexadecimal);
+        return number_literal_with_prefix(source, at, 16);
     }
     number_literal_with_suffix(source, at)
 }
 
-fn string_literal(source: &[u8], at: usize) -> Scanned
-    requires { ⌜ at < length (now source) ⌝ }
-    ensures { λ r. ⌜ r ≡ scannedOf at (stringAfter (drop (suc at) (now (source .entry)))) ⌝ }
-{
-    let end = run_end(source, at + 1, Class::Quoted);
-    let after = char_at(source, end);
-    if after == b'\'' {
-        return Scanned {
-            kind: CLOSED,
-            value: 0,
-            end: end + 1,
-        };
-    }
-    Scanned {
-        kind: UNCLOSED,
-        value: 0,
-        end,
-    }
-}
-
-fn is_punctuation(c: u8) -> bool
+pub fn is_punctuation(c: u8) -> bool
     ensures { λ r. ⌜ r ≡ isMark c ⌝ }
 {
-    (c == b':') | (c == b',') | (c == b'$') | (c == b'.') | (c == b'[') | (c == b']') | (c == b'(') | (c == b')') | (c == b'+') | (c == b'-') | (c == b'*') | (c == b'/')
+    ((b'(' <= c) & (c <= b'/')) | (c == b'$') | (c == b':') | (c == b'[') | (c == b']')
 }
 
 // The token at a place; beyond the end, the end of file.
@@ -213,18 +202,18 @@ pub fn scan(source: &[u8], at: usize) -> Scanned
         };
     }
     let c = source[at];
-    if c == b';' {
-        let end = run_end(source, at + 1, Class::Comment);
+    if is_whitespace(c) {
+        let end = run_end(source, at + 1, BLANK);
         return Scanned {
-            kind: COMMENT,
+            kind: WHITESPACE,
             value: 0,
             end,
         };
     }
-    if is_whitespace(c) {
-        let end = run_end(source, at + 1, Class::Whitespace);
+    if is_identifier_first(c) {
+        let end = run_end(source, at + 1, WORD);
         return Scanned {
-            kind: WHITESPACE,
+            kind: IDENTIFIER,
             value: 0,
             end,
         };
@@ -232,29 +221,35 @@ pub fn scan(source: &[u8], at: usize) -> Scanned
     if is_decimal_digit(c) {
         return number(source, at, c);
     }
-    if is_identifier_first(c) {
-        let end = run_end(source, at + 1, Class::Identifier);
+    if is_punctuation(c) | (c == NEW_LINE) {
         return Scanned {
-            kind: IDENTIFIER,
+            kind: c,
+            value: 0,
+            end: at + 1,
+        };
+    }
+    if c == b';' {
+        let end = run_end(source, at + 1, REMARK);
+        return Scanned {
+            kind: COMMENT,
             value: 0,
             end,
         };
     }
     if c == b'\'' {
-        return string_literal(source, at);
-    }
-    if c == b'\n' {
+        let end = run_end(source, at + 1, QUOTED);
+        let after = char_at(source, end);
+        if after == b'\'' {
+            return Scanned {
+                kind: CLOSED,
+                value: 0,
+                end: end + 1,
+            };
+        }
         return Scanned {
-            kind: NEW_LINE,
+            kind: UNCLOSED,
             value: 0,
-            end: at + 1,
-        };
-    }
-    if is_punctuation(c) {
-        return Scanned {
-            kind: c,
-            value: 0,
-            end: at + 1,
+            end,
         };
     }
     Scanned {
