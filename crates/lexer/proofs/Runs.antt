@@ -107,11 +107,11 @@ module _ (v base : ℕ) where
   valued-end h = rw (le-leb v 2147483647 h)
 
 -- Each class of digits is below its base.
-both : (a b : Bool) → (a && b) ≡ true → (a ≡ true) × (b ≡ true)
+pub both : (a b : Bool) → (a && b) ≡ true → (a ≡ true) × (b ≡ true)
 both true b h = (refl, h)
 both false b h = let z : _≡_ {A = ℕ} 0 1 = cc in absurd (omega arith)
 
-one-of : (a b : Bool) → (a || b) ≡ true → (a ≡ true) ⊎ (b ≡ true)
+pub one-of : (a b : Bool) → (a || b) ≡ true → (a ≡ true) ⊎ (b ≡ true)
 one-of true b h = inl refl
 one-of false b h = inr h
 
