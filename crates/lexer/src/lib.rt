@@ -7,8 +7,19 @@ ghost use Rattle.lexer.specs.Text.{isDigit, digit};
 ghost use Rattle.lexer.specs.Tokens.{tokenAt, numberAt, suffixed, prefixed, digits};
 ghost use Rattle.lexer.specs.Runs.{belongs, afterZero};
 ghost use Rattle.lexer.specs.Scanned.{isMark, scannedOf, tokenOf, nextOf};
-
-use text::{BLANK, QUOTED, REMARK, UP_TO_ONE, Value, WORD, char_at, from_radix, is_decimal_digit, is_identifier_first, is_letter, is_whitespace, run_end};
+use text::BLANK;
+use text::QUOTED;
+use text::REMARK;
+use text::UP_TO_ONE;
+use text::Value;
+use text::WORD;
+use text::char_at;
+use text::from_radix;
+use text::is_decimal_digit;
+use text::is_identifier_first;
+use text::is_letter;
+use text::is_whitespace;
+use text::run_end;
 
 mod text;
 
@@ -64,15 +75,25 @@ pub struct Scanned {
 }
 
 pub const END_OF_FILE: u8 = 0;
+
 pub const NEW_LINE: u8 = b'\n';
+
 pub const WHITESPACE: u8 = b' ';
+
 pub const COMMENT: u8 = b';';
+
 pub const IDENTIFIER: u8 = b'a';
+
 pub const NUMBER: u8 = b'0';
+
 pub const CLOSED: u8 = b'\'';
+
 pub const UNCLOSED: u8 = b'"';
+
 pub const INVALID: u8 = b'!';
+
 pub const LARGER_DIGIT: u8 = 30;
+
 pub const TOO_LARGE: u8 = 31;
 
 // The digits of a base behind the prefix that stands at `at`.
@@ -122,6 +143,7 @@ fn number_literal(source: &[u8], at: usize, to: usize, base: u64, end: usize) ->
     }
 }
 
+// A number with no prefix: a run of hexadecimal digits, whose last is the suffix if it is b or d.
 fn number_literal_with_suffix(source: &[u8], at: usize) -> Scanned
     requires { ⌜ (at < length (now source)) × (isDigit (getD (now source) at 0) ≡ true) ⌝ }
     ensures { λ r. ⌜ r ≡ scannedOf at (suffixed (getD (now (source .entry)) at 0) (drop (suc at) (now (source .entry)))) ⌝ }
@@ -164,6 +186,7 @@ fn after_zero(source: &[u8], at: usize, first: u8) -> u8
     }
 }
 
+// The number that begins with the digit `first`.
 fn number(source: &[u8], at: usize, first: u8) -> Scanned
     requires { ⌜ (at < length (now source)) × (first ≡ getD (now source) at 0) × (isDigit first ≡ true) ⌝ }
     ensures { λ r. ⌜ r ≡ scannedOf at (numberAt first (drop (suc at) (now (source .entry)))) ⌝ }
@@ -184,13 +207,13 @@ fn number(source: &[u8], at: usize, first: u8) -> Scanned
     number_literal_with_suffix(source, at)
 }
 
-pub fn is_punctuation(c: u8) -> bool
+fn is_punctuation(c: u8) -> bool
     ensures { λ r. ⌜ r ≡ isMark c ⌝ }
 {
     ((b'(' <= c) & (c <= b'/')) | (c == b'$') | (c == b':') | (c == b'[') | (c == b']')
 }
 
-// The token at a place; beyond the end, the end of file.
+// The token at a place; beyond the end, the end of file. The tests stand in the order of how often each is met.
 pub fn scan(source: &[u8], at: usize) -> Scanned
     ensures { λ r. ⌜ r ≡ scannedOf at (tokenAt (drop at (now (source .entry)))) ⌝ }
 {
@@ -259,7 +282,7 @@ pub fn scan(source: &[u8], at: usize) -> Scanned
     }
 }
 
-// The token that the numbers of a scan stand for, of n bytes.
+// The token that the numbers of a scan stand for, of n bytes. A scan's values are below the remainders' divisors, which only say so to the casts.
 fn token_of(kind: u8, value: u32, n: usize) -> Token
     ensures { λ r. ⌜ r ≡ tokenOf kind value n ⌝ }
 {

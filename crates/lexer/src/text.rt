@@ -60,15 +60,23 @@ pub fn is_letter(c: u8, small: u8, capital: u8) -> bool
 pub fn char_at(source: &[u8], index: usize) -> u8
     ensures { λ r. ⌜ r ≡ getD (now (source .entry)) index 0 ⌝ }
 {
-    if index < source.len() { source[index] } else { 0 }
+    if index < source.len() {
+        source[index]
+    } else {
+        0
+    }
 }
 
 // The classes that runs are made of, beside the digits of a base, whose class is the base. Numbers, not an enum: the loop is then
 // made anew for each class that is known where it is called.
 pub const BLANK: u8 = b' ';
+
 pub const WORD: u8 = b'a';
+
 pub const UP_TO_ONE: u8 = b'1';
+
 pub const QUOTED: u8 = b'\'';
+
 pub const REMARK: u8 = b';';
 
 pub fn in_class(class: u8, c: u8) -> bool

@@ -4,9 +4,6 @@ use Rattle.lexer.specs.Text.{is}
 use borrow.Author.Needs.{needs}
 use Rattle.lexer.proofs.after_zero.Statement.{statement}
 use Rattle.lexer.proofs.after_zero.Tie as tie
-use Rattle.lexer.proofs.after_zero.Reads as reads
-use Rattle.lexer.proofs.after_zero.Lts as lts
-use Rattle.lexer.proofs.text.char_at.Reads as char-at-reads
 
 add-char-at : tie.Need-add-char-at
 add-char-at c = search needs

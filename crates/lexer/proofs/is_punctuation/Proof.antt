@@ -3,8 +3,6 @@ use native.Mathlib.Omega.{arith}
 use Rattle.lexer.proofs.Scans.{marks-are}
 use Rattle.lexer.proofs.is_punctuation.Statement.{statement}
 use Rattle.lexer.proofs.is_punctuation.Tie as tie
-use Rattle.lexer.proofs.is_punctuation.Reads as reads
-use Rattle.lexer.proofs.is_punctuation.Lts as lts
 
 returns : tie.Need-returns
 returns c = marks-are _ (omega (arith, c .fits .c))

@@ -9,11 +9,6 @@ use Rattle.lexer.proofs.Scans.{number-binary, number-octal, number-deci
 use borrow.Author.Needs.{needs}
 use Rattle.lexer.proofs.number.Statement.{statement}
 use Rattle.lexer.proofs.number.Tie as tie
-use Rattle.lexer.proofs.number.Reads as reads
-use Rattle.lexer.proofs.number.Lts as lts
-use Rattle.lexer.proofs.after_zero.Reads as after-zero-reads
-use Rattle.lexer.proofs.number_literal_with_prefix.Reads as number-literal-with-prefix-reads
-use Rattle.lexer.proofs.number_literal_with_suffix.Reads as number-literal-with-suffix-reads
 
 after-zero-requires : tie.Need-after-zero-requires
 after-zero-requires c κs = search needs
@@ -46,7 +41,7 @@ number-literal-with-suffix-requires : tie.Need-number-literal-with-suffix-requir
 number-literal-with-suffix-requires c κs = (c .before .before .before .before .before .before .pre .0, ap isDigit (sym (c .before .before .before .before .before .before .pre .1)) ∙ c .before .before .before .before .before .before .pre .2)
 
 returns-5 : tie.Need-returns-5
-returns-5 c = 
+returns-5 c =
     let first = c .before .before .before .before .before .before .before .pre .1 in
     rw first (c .number-literal-with-suffix .ensures ∙ ap (scannedOf _) (sym (rw first at (number-plain _ (now (c .before .before .before .before .before .before .before .args .source)) (c .before .before .before .before .before .before .before .args .at) (λ q. c .before .before .before .before .if1 .left (c .before .before .before .before .before .after-zero .ensures ∙ q)) (λ q. c .before .before .before .if2 .left (c .before .before .before .before .before .after-zero .ensures ∙ q)) (λ q. c .before .before .if3 .left (c .before .before .before .before .before .after-zero .ensures ∙ q)) (λ q. c .before .if4 .left (c .before .before .before .before .before .after-zero .ensures ∙ q))))))
 

@@ -6,10 +6,6 @@ use Rattle.lexer.proofs.Scans.{prefix-alone, prefix-within, prefix-fits
 use borrow.Author.Needs.{needs}
 use Rattle.lexer.proofs.number_literal_with_prefix.Statement.{statement}
 use Rattle.lexer.proofs.number_literal_with_prefix.Tie as tie
-use Rattle.lexer.proofs.number_literal_with_prefix.Reads as reads
-use Rattle.lexer.proofs.number_literal_with_prefix.Lts as lts
-use Rattle.lexer.proofs.text.from_radix.Reads as from-radix-reads
-use Rattle.lexer.proofs.text.run_end.Reads as run-end-reads
 
 add-from : tie.Need-add-from
 add-from c = search needs

@@ -11,15 +11,6 @@ use Rattle.lexer.proofs.Scans.{off, run-end-is, string-closed, string-u
 use borrow.Author.Needs.{needs}
 use Rattle.lexer.proofs.scan.Statement.{statement}
 use Rattle.lexer.proofs.scan.Tie as tie
-use Rattle.lexer.proofs.scan.Reads as reads
-use Rattle.lexer.proofs.scan.Lts as lts
-use Rattle.lexer.proofs.is_punctuation.Reads as is-punctuation-reads
-use Rattle.lexer.proofs.number.Reads as number-reads
-use Rattle.lexer.proofs.text.char_at.Reads as char-at-reads
-use Rattle.lexer.proofs.text.is_decimal_digit.Reads as is-decimal-digit-reads
-use Rattle.lexer.proofs.text.is_identifier_first.Reads as is-identifier-first-reads
-use Rattle.lexer.proofs.text.is_whitespace.Reads as is-whitespace-reads
-use Rattle.lexer.proofs.text.run_end.Reads as run-end-reads
 
 byte : (c : tie.After-shared-slice-known2) → getD (now (c .before .before .before .args .source)) (c .before .before .before .args .at) 0 < 256
 byte c = omega (arith, c .shared-slice-known2 .given (c .before .before .before .args .at))
@@ -70,7 +61,7 @@ add-t20 : tie.Need-add-t20
 add-t20 c = search needs
 
 returns-5 : tie.Need-returns-5
-returns-5 c = 
+returns-5 c =
     ⊎-elim
     (λ p. mark-scanned _ _ (sym (c .before .is-punctuation .ensures) ∙ p) ∙ scanned-at _ _ (c .before .before .before .before .before .before .before .before .before .if1 .left) (token-mark _ _ (byte (c .before .before .before .before .before .before .before .before)) (sym (c .before .is-punctuation .ensures) ∙ p)))
     (λ n. line-scanned _ _ (eqb-true _ 10 n) ∙ scanned-at _ _ (c .before .before .before .before .before .before .before .before .before .if1 .left) (token-line _ _ (eqb-true _ 10 n)))
@@ -110,7 +101,7 @@ add-t9 : tie.Need-add-t9
 add-t9 c = search needs
 
 returns-9 : tie.Need-returns-9
-returns-9 c = 
+returns-9 c =
     let o = off _ _ (c .before .before .if5 .left) in
     stray-scanned _ _ (sym (c .before .before .before .is-punctuation .ensures) ∙ o .0)
     ∙ scanned-at _ _ (c .before .before .before .before .before .before .before .before .before .before .before .if1 .left) (token-other _ _ (sym (c .before .before .before .before .before .before .before .before .before .is-whitespace .ensures) ∙ c .before .before .before .before .before .before .before .before .if2 .left) (sym (c .before .before .before .before .before .before .before .is-identifier-first .ensures) ∙ c .before .before .before .before .before .before .if3 .left) (sym (c .before .before .before .before .before .is-decimal-digit .ensures) ∙ c .before .before .before .before .if4 .left) (c .before .if6 .left) (c .if7 .left) (eqb-false _ 10 (o .1)))

@@ -5,14 +5,6 @@ use Rattle.lexer.specs.Tokens.{openTokens}
 use borrow.Author.Needs.{needs}
 use Rattle.lexer.proofs.text.in_class.Statement.{statement}
 use Rattle.lexer.proofs.text.in_class.Tie as tie
-use Rattle.lexer.proofs.text.in_class.Reads as reads
-use Rattle.lexer.proofs.text.in_class.Lts as lts
-use Rattle.lexer.proofs.text.is_binary_digit.Reads as is-binary-digit-reads
-use Rattle.lexer.proofs.text.is_decimal_digit.Reads as is-decimal-digit-reads
-use Rattle.lexer.proofs.text.is_hexadecimal_digit.Reads as is-hexadecimal-digit-reads
-use Rattle.lexer.proofs.text.is_identifier.Reads as is-identifier-reads
-use Rattle.lexer.proofs.text.is_octal_digit.Reads as is-octal-digit-reads
-use Rattle.lexer.proofs.text.is_whitespace.Reads as is-whitespace-reads
 
 is-whitespace-requires : tie.Need-is-whitespace-requires
 is-whitespace-requires c κs = search needs
@@ -59,7 +51,7 @@ returns-8 : tie.Need-returns-8
 returns-8 c = rw (c .before .match .keys8) (c .is-decimal-digit .ensures)
 
 returns-9 : tie.Need-returns-9
-returns-9 c = 
+returns-9 c =
     let r = c .before .match .rest in
     simp (
       ne-eqb _ _ (r .1),
