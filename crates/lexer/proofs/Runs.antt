@@ -1,13 +1,13 @@
 -- Runs of a class and the numbers that digits write, step by step as the loops go.
 use Prim.Native.Nat.{ℕ, zero, suc, _+_, _*_, _-_, _≤_, _<_}
-use mathlib.Core.Path.{_≡_, refl, sym, ap, _∙_}
+use mathlib.Core.Path.{_≡_, refl, sym, _∙_}
 use mathlib.Core.List.{List, [], _∷_}
 use mathlib.Core.Bool.{Bool, true, false, _&&_, _||_, and-false}
 use mathlib.Core.Logic.{_⊎_, inl, inr, ⊎-elim}
 use native.Mathlib.Nat.{add-zero, add-suc, suc-add, le-refl, le-trans, le-mul-of-pos-right}
 use native.Mathlib.Numerals.{add-one}
 use native.Mathlib.Omega.{arith}
-use lib.Dec.{leb, ltb}
+use lib.Dec.{leb}
 use lib.ListN.{length, getD, take, drop, drop-of-length-le}
 use lib.Seq.{drop-cons}
 use borrow.Author.Tests.{le-leb, lt-leb, leb-true, lt-ltb, le-ltb}

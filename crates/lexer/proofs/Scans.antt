@@ -1,12 +1,12 @@
 -- What is scanned at a place, told from the bytes there: for each way that the code goes, the definition goes the same.
-use Prim.Native.Nat.{ℕ, zero, suc, pred, _+_, _*_, _-_, _≤_, _<_}
+use Prim.Native.Nat.{ℕ, zero, suc, pred, _+_, _-_, _≤_, _<_}
 use mathlib.Core.Path.{_≡_, refl, sym, ap, _∙_}
 use mathlib.Core.List.{List, [], _∷_}
 use mathlib.Core.Bool.{Bool, true, false, not, _&&_, _||_, or-false, Bool·beq}
 use native.Mathlib.Numerals.{add-one, lt-of-le-of-ne}
 use native.Mathlib.Omega.{arith}
 use lib.Dec.{eqb, leb, ltb}
-use lib.ListN.{length, getD, take, drop, length-drop, drop-of-length-le, List·getD-eq-default}
+use lib.ListN.{length, getD, take, drop, length-drop, drop-of-length-le}
 use lib.Seq.{drop-cons, drop-drop, getD-drop}
 use borrow.Author.Tests.{eq-eqb, ne-eqb, eqb-true, eqb-false, lt-ltb, not-true}
 use Rattle.lexer.specs.Text.{if_then_else_, is, anyOf, isBlank, isDigit, isHexDigit, isLetter, isWordPart, within, run, all, last, digit, valueFrom, openText}
@@ -15,10 +15,9 @@ use Rattle.lexer.specs.Runs.{valuedFrom, upToOne, afterZero}
 use Rattle.lexer.specs.Scanned.{scannedOf, isMark}
 use Rattle.lexer.specs.declared.Scanned.{Scanned}
 use Rattle.lexer.specs.declared.Fault.the-variants.{LargerDigit, TooLarge}
-use Rattle.lexer.specs.declared.Token.the-variants.{Whitespace, Identifier, Comment, NewLine, EndOfFile}
+use Rattle.lexer.specs.declared.Token.the-variants.{Whitespace, Identifier, Comment, NewLine}
 use Rattle.lexer.specs.declared.TokenRead.{TokenRead}
 use Rattle.lexer.specs.declared.TokenRead.the-variants.{Read, Refused}
-use Rattle.lexer.specs.declared.text.Value.{Value}
 use Rattle.lexer.specs.declared.text.Value.the-variants.{Fits, Beyond}
 use Rattle.lexer.proofs.Runs.{both, run-le, run-all, run-ends}
 

@@ -1,6 +1,5 @@
 -- A leading zero and the byte behind it settle the prefix.
-use Prim.Native.Nat.{suc}
-use mathlib.Core.Path.{_≡_, sym, ap, _∙_}
+use mathlib.Core.Path.{sym, ap, _∙_}
 use denote.Ref.{now}
 use Rattle.lexer.specs.Text.{isDigit}
 use Rattle.lexer.specs.Scanned.{scannedOf}

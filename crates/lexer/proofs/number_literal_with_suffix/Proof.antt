@@ -1,7 +1,6 @@
 -- The run and the byte behind it settle the suffix, and with it the base, as in the definition.
-use mathlib.Core.Path.{_≡_, refl, sym, ap, _∙_}
+use mathlib.Core.Path.{sym, ap, _∙_}
 use native.Mathlib.Omega.{arith}
-use native.Mathlib.Numerals.{add-one}
 use Rattle.lexer.specs.Scanned.{scannedOf}
 use Rattle.lexer.proofs.Scans.{suffix-inside, suffix-within, suffix-larger, suffix-binary, suffix-decimal, suffix-octal, suffix-hexadecimal, suffix-none, larger-scanned}
 use Prim.Native.Nat.{_≤_, _<_}

@@ -4,7 +4,7 @@ use mathlib.Core.List.{_∷_}
 use mathlib.Core.Path.{_≡_, refl, sym, ap, _∙_}
 use borrow.Author.Needs.{needs}
 use native.Mathlib.Omega.{arith}
-use native.Mathlib.Nat.{mul-le-mul, le-refl}
+use native.Mathlib.Nat.{mul-le-mul}
 use denote.Ref.{now}
 use lib.ListN.{take, drop, getD}
 use Rattle.lexer.specs.Text.{digit}

@@ -1,5 +1,4 @@
 -- Each class computes, and the rest is none of them.
-use mathlib.Core.Path.{_∙_}
 use borrow.Author.Tests.{ne-eqb}
 use Rattle.lexer.specs.Tokens.{openTokens}
 use borrow.Author.Needs.{needs}
