@@ -1,1 +1,2 @@
-// The parser.
+// The parser of a marker file: its state goes by value, one token ahead; records are written as it reads.
+pub mod state;

@@ -39,9 +39,9 @@ unfolding stores
 nothing at l = record { long = refl; place = λ _. sym (add-zero at); wrote = λ _ _. refl }
 
 -- a run written behind another
-pub then : {at w r : ℕ} (a b : List ℕ) {l l₁ l₂ : List ℕ} → Wrote at a l l₁ w → Wrote w b l₁ l₂ r → Wrote at (a ++ b) l l₂ r
+pub follows : {at w r : ℕ} (a b : List ℕ) {l l₁ l₂ : List ℕ} → Wrote at a l l₁ w → Wrote w b l₁ l₂ r → Wrote at (a ++ b) l l₂ r
 unfolding stores
-then {at} {w} {r} a b {l} {l₁} {l₂} x y = record {
+follows {at} {w} {r} a b {l} {l₁} {l₂} x y = record {
     long = y .long ∙ x .long;
     place = λ h.
       let k : length (a ++ b) ≡ length a + length b = length-append a b in

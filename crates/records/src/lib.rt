@@ -3,7 +3,7 @@
 ghost use mathlib.Core.Path.{_≡_};
 ghost use mathlib.Core.List.{[], _∷_};
 ghost use Prim.Native.Nat.{ℕ, _+_, _≤_};
-ghost use Rattle.rules.specs.Records.{field, fields};
+ghost use Rattle.rules.specs.Records.{OD, OX, LI, field, fields, encode};
 ghost use Rattle.records.specs.Writes.{Wrote};
 
 // No place of a listing comes near it, so places can't run over.
@@ -79,4 +79,50 @@ pub fn put_record(out: &mut [u8], at: u32, m: u8, n: u8, from: u32, to: u32, v: 
 {
     let w = put_span(out, at, m, n, from, to);
     put_field(out, w, v)
+}
+
+// OD.
+pub fn put_direct(out: &mut [u8], at: u32, from: u32, to: u32, size: u32, segment: u32) -> u32
+    ensures { λ r. ⌜ Wrote at (encode (OD from to size segment)) (now (out .entry)) (now (out .exit)) r ⌝ }
+{
+    let w = put_record(out, at, b'O', b'D', from, to, size);
+    put_field(out, w, segment)
+}
+
+// OX.
+pub fn put_indirect(
+    out: &mut [u8],
+    at: u32,
+    from: u32,
+    to: u32,
+    encoding: u32,
+    has: u32,
+    size: u32,
+    segment: u32,
+) -> u32
+    ensures { λ r. ⌜ Wrote at (encode (OX from to encoding has size segment)) (now (out .entry)) (now (out .exit)) r ⌝ }
+{
+    let w = put_record(out, at, b'O', b'X', from, to, encoding);
+    let v = put_field(out, w, has);
+    let u = put_field(out, v, size);
+    put_field(out, u, segment)
+}
+
+// LI; the second span is that of the operands.
+pub fn put_instruction(
+    out: &mut [u8],
+    at: u32,
+    from: u32,
+    to: u32,
+    operation: u32,
+    count: u32,
+    first: u32,
+    last: u32,
+) -> u32
+    ensures { λ r. ⌜ Wrote at (encode (LI from to operation count first last)) (now (out .entry)) (now (out .exit)) r ⌝ }
+{
+    let w = put_record(out, at, b'L', b'I', from, to, operation);
+    let v = put_field(out, w, count);
+    let u = put_field(out, v, first);
+    put_field(out, u, last)
 }
