@@ -42,3 +42,18 @@ pub enum TokenRead {
     Read(Token),
     Refused(usize, Fault),
 }
+
+pub struct Scanned {
+    pub kind: u8,
+    pub value: u32,
+    pub end: usize,
+}
+
+pub struct Cursor {
+    pub pos: usize,
+}
+
+pub enum Next {
+    Token(Token, Cursor),
+    Refused(Fault, usize, usize),
+}
