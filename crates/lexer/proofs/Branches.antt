@@ -1,6 +1,6 @@
 -- What holds on both sides of a test holds of the choice between them.
 use mathlib.Core.Path.{_≡_, refl}
-use mathlib.Core.Bool.{Bool, true, false}
+use mathlib.Core.Bool.{Bool, true, false, _&&_, false≢true}
 use Rattle.lexer.specs.Text.{if_then_else_}
 
 pub branch : {A : Type 0} (b : Bool) (x x′ y y′ : A) → x ≡ x′ → y ≡ y′ → _≡_ {A = A} (if b then x else y) (if b then x′ else y′)
@@ -15,3 +15,7 @@ either P false x y p q = q
 pub given : {A : Type 0} (P : A → Type 0) (b : Bool) (x y : A) → (b ≡ true → P x) → (b ≡ false → P y) → P (if b then x else y)
 given P true x y p q = p refl
 given P false x y p q = q refl
+
+pub and-split : (b c : Bool) → b && c ≡ true → (b ≡ true) × (c ≡ true)
+and-split true c h = (refl, h)
+and-split false c h = absurd (false≢true h)

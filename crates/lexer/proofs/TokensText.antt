@@ -21,7 +21,7 @@ use Rattle.lexer.specs.declared.Fault.the-variants.{LargerDigit, TooLarg
 use Rattle.lexer.specs.declared.TokenRead.{TokenRead}
 use Rattle.lexer.specs.declared.TokenRead.the-variants.{Read, Refused}
 use Rattle.lexer.specs.Tokens.{largest, numeral, stray, prefixed, digits, inBase, suffixed, numberAt, inQuotes, stringAfter, inComment, mark, markAt, tokenAt, sizeOf}
-use Rattle.lexer.proofs.Branches.{either, given}
+use Rattle.lexer.proofs.Branches.{either, given, and-split}
 use Rattle.lexer.proofs.TokensLine.{Lines}
 
 -- the first n bytes of s are there, and none is a line feed
@@ -83,10 +83,6 @@ within-largest : (v : ℕ) → leb v largest ≡ true → v ≤ 2147483647
 unfolding largest
 within-largest v h = leb-true v 2147483647 h
 
-and-right : (b c : Bool) → b && c ≡ true → c ≡ true
-and-right true c h = h
-and-right false c h = absurd (false≢true h)
-
 -- a number of n bytes of s
 module _ {s : List ℕ} (n : ℕ) (i : 1 ≤ n) (l : Clean n s) where
   numeral-fine : (v : ℕ) → leb v largest ≡ true → Fine s (numeral n v)
@@ -106,7 +102,7 @@ module _ (c : ℕ) (cs : List ℕ) (other-byte : is "\n" c ≡ false) where
   digits-fine d base ds n i l =
       let fits : Bool = all (λ e. ltb (digit e) base) ds in
       let small : Bool = leb (valueFrom 0 base ds) largest in
-      given (Fine (c ∷ cs)) (fits && small) _ _ (λ e. numeral-fine n i l (valueFrom 0 base ds) (and-right fits small e)) (λ e. stray-fine d)
+      given (Fine (c ∷ cs)) (fits && small) _ _ (λ e. numeral-fine n i l (valueFrom 0 base ds) (and-split fits small e .1)) (λ e. stray-fine d)
 
   inBase-fine : (d n : ℕ) (ds cut : List ℕ) (after : ℕ) → 1 ≤ n → Clean n (c ∷ cs) → (anyOf "oO" after ≡ true → Clean (suc n) (c ∷ cs)) → (anyOf "hH" after ≡ true → Clean (suc n) (c ∷ cs))
       → Fine (c ∷ cs) (inBase d n ds cut after)

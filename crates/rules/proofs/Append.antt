@@ -13,7 +13,8 @@ use Rattle.rules.specs.Records.{Record, ST, LL, LI, LD, LC, LT}
 use Rattle.rules.specs.Reader.{Refusal, at, nowhere, encoding, Answer, done, refused, Reader, Line, after, thence, _>>=_, _>>_, return, write, refuse, refusedAs, arrive, next, ahead, kind, passed, left, refuseHere, isLineEnd}
 use Rattle.rules.specs.Operands.{isWord, operands}
 use Rattle.rules.specs.Expressions.{expression}
-use Rattle.rules.proofs.Mild.{Mild, Mildly, Gentle, bad-mild, next-mild, ahead-mild, kind-mild, passed-mild, left-mild, here-mild, expression-mild, operands-mild, label-mild, literals-mild}
+use Rattle.rules.proofs.Move.{Mild, Stays, Gentle, bad-mild, next-mild}
+use Rattle.rules.proofs.Mild.{ahead-mild, kind-mild, passed-mild, left-mild, here-mild, expression-mild, operands-mild, label-mild, literals-mild}
 use Rattle.rules.specs.Statements.{Row, State, over, inLine, firstOf, enter, stepRow, nextRow, lineEnd, skip, skipLines, passing, label, rep, repne, instruction, constant, literals, someData, dataOf, line, content, times, begun, statement, statements}
 
 pub after-nil : {S A : Type 0} (p : Answer S A) → after [] p ≡ p
@@ -83,6 +84,10 @@ unfolding closing thence after
 closing-plain (done w a s) = rw (append-nil w)
 closing-plain (refused r) = refl
 
+-- What a second reading comes to at further rows, past empty lines.
+unfoldable pub coming : Row → List Row → Answer State (Unit {0})
+coming b bs = arrive (b .first) (skipLines (enter b bs))
+
 abbrev pub Late : Bool → Type 0
 Late true = Unit {0}
 Late false = ⊥
@@ -128,10 +133,6 @@ module _ (table : List ℕ) where
   content-lacks m x u e = rw (e .over′)
 
   module _ (b : Row) (bs : List Row) where
-    -- the second reading at the further rows, past empty lines
-    unfoldable pub coming : Answer State (Unit {0})
-    coming = arrive (b .first) (skipLines (enter b bs))
-
     -- a reading that takes the content of a `times` from the further rows
     pub record Pending {A : Type 0} (q : Answer State A) : Type 0 where
       pub n : ℕ
@@ -140,7 +141,7 @@ module _ (table : List ℕ) where
       pub z : List Record
       pub a : A
       pub few : n ≤ 16
-      pub form : q ≡ closing w z a (thence coming (λ _. content table (times table n) x))
+      pub form : q ≡ closing w z a (thence (coming b bs) (λ _. content table (times table n) x))
 
     -- Two answers agree: the same records and value, in states that R relates; the same refusal. Late ones may also lack a content, or end before a bad token.
     pub data Agree (c : Bool) (R : State → State → Type 0) {A : Type 0} : Answer State A → Answer State A → Type 0 where
@@ -243,7 +244,7 @@ module _ (table : List ℕ) where
   skip-last es (empty e i) b bs l false h = rw h (still (inside l []) h)
 
   module _ (es : List Row) (tail : Tail es) (b : Row) (bs : List Row) where
-    over-agree : {c : Bool} {A : Type 0} (rs : List Row) (p : Answer Line A) → Mildly p → Agree b bs c (In es b bs) (over (rs ++ es) p) (over (rs ++ (b ∷ bs)) p)
+    over-agree : {c : Bool} {A : Type 0} (rs : List Row) (p : Answer Line A) → Stays (λ _. Unit {0}) Mild p → Agree b bs c (In es b bs) (over (rs ++ es) p) (over (rs ++ (b ∷ bs)) p)
     unfolding over
     over-agree rs (done w a l) m = both (inside l rs)
     over-agree rs (refused r) m = neither m

@@ -1,6 +1,6 @@
 -- Moving: what a reader does with tokens whose places are moved is what it does with the tokens, moved, since no rule computes with a place.
--- `Moves` says so for a map of states, records and refusals, and with it that a property of states is kept. Both are closed under what
--- readers are made of, so each reader's proof follows its text.
+-- `Moves` says so for a map of states, records and refusals. In the same walk through the readers rides that a property P of states is
+-- kept and that each refusal is one of M. All three are closed under what readers are made of, so each reader's proof follows its text.
 use mathlib.Core.Path.{_≡_, refl, sym, ap, ap₂, _∙_}
 use mathlib.Core.Bool.{Bool, true, false, _||_}
 use mathlib.Core.List.{List, [], _∷_, _++_, map}
@@ -28,35 +28,66 @@ abbrev Option-map : {A : Type 0} → (A → A) → Option A → Option A
 Option-map g none = none
 Option-map g (some a) = some (g a)
 
--- an answer in whose state P holds, if it is no refusal
-abbrev pub Stays : {S A : Type 0} → (S → Type 0) → Answer S A → Type 0
-Stays P (done w a s) = P s
-Stays P (refused r) = Unit {0}
+-- A refusal other than 34, which alone depends on the lines below.
+abbrev pub Mild : Refusal → Type 0
+Mild (at n f t) = eqb n 34 ≡ false
+Mild (nowhere n) = Unit {0}
+Mild (encoding f t a b) = Unit {0}
 
-pub after-stays : {S A : Type 0} (P : S → Type 0) (w : List Record) (p : Answer S A) → Stays P p → Stays P (after w p)
+abbrev pub Any : Refusal → Type 0
+Any r = Unit {0}
+
+pub bad-mild : (k : Kind) (n : ℕ) → refusedAs k ≡ some n → eqb n 34 ≡ false
+unfolding refusedAs
+bad-mild (bad true) n h = let y : 31 ≡ n = cc in rw (← y)
+bad-mild (bad false) n h = let y : 30 ≡ n = cc in rw (← y)
+bad-mild (word w) n h = cc
+bad-mild (number v) n h = cc
+bad-mild (quoted b w) n h = cc
+bad-mild (mark c) n h = cc
+bad-mild newline n h = cc
+bad-mild blank n h = cc
+bad-mild comment n h = cc
+bad-mild invalid n h = cc
+bad-mild end n h = cc
+
+-- An answer that leaves P of the state, or refuses with one of M.
+abbrev pub Stays : {S A : Type 0} → (S → Type 0) → (Refusal → Type 0) → Answer S A → Type 0
+Stays P M (done w a s) = P s
+Stays P M (refused r) = M r
+
+pub after-stays : {S A : Type 0} (P : S → Type 0) (M : Refusal → Type 0) (w : List Record) (p : Answer S A) → Stays P M p → Stays P M (after w p)
 unfolding after
-after-stays P w (done v a s) h = h
-after-stays P w (refused r) h = tt
+after-stays P M w (done v a s) h = h
+after-stays P M w (refused r) h = h
 
-pub thence-stays : {S A B : Type 0} (P : S → Type 0) (k : A → Reader S B) → ((a : A) (s : S) → P s → Stays P (k a s)) → (p : Answer S A) → Stays P p → Stays P (thence p k)
+pub thence-stays : {S A B : Type 0} (P : S → Type 0) (M : Refusal → Type 0) (k : A → Reader S B) → ((a : A) (s : S) → P s → Stays P M (k a s)) → (p : Answer S A) → Stays P M p → Stays P M (thence p k)
 unfolding thence
-thence-stays P k e (done w a s) h = after-stays P w (k a s) (e a s h)
-thence-stays P k e (refused r) h = tt
+thence-stays P M k e (done w a s) h = after-stays P M w (k a s) (e a s h)
+thence-stays P M k e (refused r) h = h
 
-orBack-stays : {S A : Type 0} (P : S → Type 0) (a : A) (s : S) → P s → (p : Answer S (Option A)) → Stays P p → Stays P (orBack p a s)
+pub arrive-stays : {S A : Type 0} (P : S → Type 0) (M : Refusal → Type 0) (x : Lexeme) (p : Answer S A) → ((n : ℕ) → refusedAs (x .kind) ≡ some n → M (at n (x .from) (x .to))) → Stays P M p → Stays P M (arrive x p)
+unfolding arrive
+arrive-stays P M x p m h = go (refusedAs (x .kind)) refl
+  where
+    go : (o : Option ℕ) → refusedAs (x .kind) ≡ o → Stays P M (maybe o p (λ n. refused (at n (x .from) (x .to))))
+    go none e = h
+    go (some n) e = m n e
+
+orBack-stays : {S A : Type 0} (P : S → Type 0) (M : Refusal → Type 0) (a : A) (s : S) → P s → (p : Answer S (Option A)) → Stays P M p → Stays P M (orBack p a s)
 unfolding orBack
-orBack-stays P a s i (done w none t) h = i
-orBack-stays P a s i (done w (some b) t) h = h
-orBack-stays P a s i (refused r) h = tt
+orBack-stays P M a s i (done w none t) h = i
+orBack-stays P M a s i (done w (some b) t) h = h
+orBack-stays P M a s i (refused r) h = h
 
 module _ {S : Type 0} (σ : S → S) (ρ : Record → Record) (κ : Refusal → Refusal) where
   unfoldable pub carry : {A : Type 0} → (A → A) → Answer S A → Answer S A
   carry g (done w a s) = done (map ρ w) (g a) (σ s)
   carry g (refused r) = refused (κ r)
 
-  pub record Moves (P : S → Type 0) {A : Type 0} (g : A → A) (m m′ : Reader S A) : Type 0 where
+  pub record Moves (P : S → Type 0) (M : Refusal → Type 0) {A : Type 0} (g : A → A) (m m′ : Reader S A) : Type 0 where
     pub law : (s : S) → m′ (σ s) ≡ carry g (m s)
-    pub keeps : (s : S) → P s → Stays P (m s)
+    pub keeps : (s : S) → P s → Stays P M (m s)
 
 -- what readers are made of
 module _ {S : Type 0} (σ : S → S) (ρ : Record → Record) (κ : Refusal → Refusal) where
@@ -65,11 +96,11 @@ module _ {S : Type 0} (σ : S → S) (ρ : Record → Record) (κ : Refusal → 
   after-carry g w (done v a s) = ap (λ (r : List Record). done r (g a) (σ s)) (sym (map-append ρ w v))
   after-carry g w (refused r) = refl
 
-  thence-carry : {A B : Type 0} (P : S → Type 0) (g : A → A) (h : B → B) (k k′ : A → Reader S B) → ((a : A) → Moves σ ρ κ P h (k a) (k′ (g a)))
+  thence-carry : {A B : Type 0} (P : S → Type 0) (M : Refusal → Type 0) (g : A → A) (h : B → B) (k k′ : A → Reader S B) → ((a : A) → Moves σ ρ κ P M h (k a) (k′ (g a)))
       → (p : Answer S A) → thence (carry σ ρ κ g p) k′ ≡ carry σ ρ κ h (thence p k)
   unfolding carry thence
-  thence-carry P g h k k′ e (done w a s) = ap (after (map ρ w)) (e a .law s) ∙ after-carry h w (k a s)
-  thence-carry P g h k k′ e (refused r) = refl
+  thence-carry P M g h k k′ e (done w a s) = ap (after (map ρ w)) (e a .law s) ∙ after-carry h w (k a s)
+  thence-carry P M g h k k′ e (refused r) = refl
 
   orBack-carry : {A : Type 0} (g : A → A) (a : A) (s : S) (p : Answer S (Option A))
       → orBack (carry σ ρ κ (Option-map g) p) (g a) (σ s) ≡ carry σ ρ κ g (orBack p a s)
@@ -78,44 +109,44 @@ module _ {S : Type 0} (σ : S → S) (ρ : Record → Record) (κ : Refusal → 
   orBack-carry g a s (done w (some b) t) = refl
   orBack-carry g a s (refused r) = refl
 
-module _ {S : Type 0} {σ : S → S} {ρ : Record → Record} {κ : Refusal → Refusal} {P : S → Type 0} where
+module _ {S : Type 0} {σ : S → S} {ρ : Record → Record} {κ : Refusal → Refusal} {P : S → Type 0} {M : Refusal → Type 0} where
   pub bind : {A B : Type 0} {g : A → A} {h : B → B} {m m′ : Reader S A} {k : A → Reader S B} (k′ : A → Reader S B)
-      → Moves σ ρ κ P g m m′ → ((a : A) → Moves σ ρ κ P h (k a) (k′ (g a))) → Moves σ ρ κ P h (m >>= k) (m′ >>= k′)
+      → Moves σ ρ κ P M g m m′ → ((a : A) → Moves σ ρ κ P M h (k a) (k′ (g a))) → Moves σ ρ κ P M h (m >>= k) (m′ >>= k′)
   unfolding _>>=_
   bind {g = g} {h} {m} {m′} {k} k′ p e = record {
-    law = λ s. ap (λ (q : Answer S _). thence q k′) (p .law s) ∙ thence-carry σ ρ κ P g h k k′ e (m s);
-    keeps = λ s h. thence-stays P k (λ a t i. e a .keeps t i) (m s) (p .keeps s h) }
+    law = λ s. ap (λ (q : Answer S _). thence q k′) (p .law s) ∙ thence-carry σ ρ κ P M g h k k′ e (m s);
+    keeps = λ s h. thence-stays P M k (λ a t i. e a .keeps t i) (m s) (p .keeps s h) }
 
   pub andThen : {A B : Type 0} {g : A → A} {h : B → B} {m m′ : Reader S A} {k k′ : Reader S B}
-      → Moves σ ρ κ P g m m′ → Moves σ ρ κ P h k k′ → Moves σ ρ κ P h (m >> k) (m′ >> k′)
+      → Moves σ ρ κ P M g m m′ → Moves σ ρ κ P M h k k′ → Moves σ ρ κ P M h (m >> k) (m′ >> k′)
   unfolding _>>_
   andThen {k′ = k′} p e = bind (λ _. k′) p (λ _. e)
 
-  pub returns : {A : Type 0} (g : A → A) (a : A) → Moves σ ρ κ P g (return a) (return (g a))
+  pub returns : {A : Type 0} (g : A → A) (a : A) → Moves σ ρ κ P M g (return a) (return (g a))
   unfolding return carry
   returns g a = record { law = λ s. refl; keeps = λ s h. h }
 
-  pub writes : (r : Record) → Moves σ ρ κ P same (write r) (write (ρ r))
+  pub writes : (r : Record) → Moves σ ρ κ P M same (write r) (write (ρ r))
   unfolding write carry
   writes r = record { law = λ s. refl; keeps = λ s h. h }
 
-  pub refuses : {A : Type 0} (g : A → A) (r : Refusal) → Moves σ ρ κ P g (refuse r) (refuse (κ r))
+  pub refuses : {A : Type 0} (g : A → A) (r : Refusal) → M r → Moves σ ρ κ P M g (refuse r) (refuse (κ r))
   unfolding refuse carry
-  refuses g r = record { law = λ s. refl; keeps = λ s h. tt }
+  refuses g r m = record { law = λ s. refl; keeps = λ s h. m }
 
   pub whether : {A : Type 0} {g : A → A} {m m′ n n′ : Reader S A} (c : Bool)
-      → Moves σ ρ κ P g m m′ → Moves σ ρ κ P g n n′ → Moves σ ρ κ P g (if c then m else n) (if c then m′ else n′)
+      → Moves σ ρ κ P M g m m′ → Moves σ ρ κ P M g n n′ → Moves σ ρ κ P M g (if c then m else n) (if c then m′ else n′)
   whether true p q = p
   whether false p q = q
 
   pub perhaps : {A B : Type 0} {g : A → A} {m m′ : Reader S A} {k k′ : B → Reader S A} (o : Option B)
-      → Moves σ ρ κ P g m m′ → ((b : B) → Moves σ ρ κ P g (k b) (k′ b)) → Moves σ ρ κ P g (maybe o m k) (maybe o m′ k′)
+      → Moves σ ρ κ P M g m m′ → ((b : B) → Moves σ ρ κ P M g (k b) (k′ b)) → Moves σ ρ κ P M g (maybe o m k) (maybe o m′ k′)
   perhaps none p q = p
   perhaps (some b) p q = q b
 
-  pub attempts : {A : Type 0} {g : A → A} {m m′ : Reader S (Option A)} (a : A) → Moves σ ρ κ P (Option-map g) m m′ → Moves σ ρ κ P g (attempt m a) (attempt m′ (g a))
+  pub attempts : {A : Type 0} {g : A → A} {m m′ : Reader S (Option A)} (a : A) → Moves σ ρ κ P M (Option-map g) m m′ → Moves σ ρ κ P M g (attempt m a) (attempt m′ (g a))
   unfolding attempt
-  attempts {g = g} {m} a p = record { law = λ s. ap (λ (q : Answer S (Option _)). orBack q (g a) (σ s)) (p .law s) ∙ orBack-carry σ ρ κ g a s (m s); keeps = λ s h. orBack-stays P a s h (m s) (p .keeps s h) }
+  attempts {g = g} {m} a p = record { law = λ s. ap (λ (q : Answer S (Option _)). orBack q (g a) (σ s)) (p .law s) ∙ orBack-carry σ ρ κ g a s (m s); keeps = λ s h. orBack-stays P M a s h (m s) (p .keeps s h) }
 
 -- places moved by f
 module _ (f : ℕ → ℕ) where
@@ -151,10 +182,10 @@ module _ (f : ℕ → ℕ) where
 
 module _ (f : ℕ → ℕ) (P : Line → Type 0) where
   abbrev pub Shifts : {A : Type 0} → (A → A) → Reader Line A → Reader Line A → Type 0
-  Shifts g m m′ = Moves (moveLine f) (moveRecord f) (moveRefusal f) P g m m′
+  Shifts g m m′ = Moves (moveLine f) (moveRecord f) (moveRefusal f) P Mild g m m′
 
--- The laws: f moves the places, and P, which no step to the next token breaks, is kept.
-module _ (f : ℕ → ℕ) (P : Line → Type 0) (closed : (s : Line) → P s → Stays P (next s)) where
+-- The laws: f moves the places; P, which no step to the next token breaks, is kept; and what is read within a line is never refused with 34.
+module _ (f : ℕ → ℕ) (P : Line → Type 0) (closed : (s : Line) → P s → Stays P Mild (next s)) where
   pub next-shifts : Shifts f P same next next
   unfolding next moveLine
   next-shifts = record { law = λ s. step-shifts f (s .more) s; keeps = closed }
@@ -175,21 +206,21 @@ module _ (f : ℕ → ℕ) (P : Line → Type 0) (closed : (s : Line) → P s �
   unfolding left carry moveLine
   left-shifts = record { law = λ s. ap (λ (n : ℕ). done [] n ((moveLine f) s)) (length-map (s .more) (moveToken f)); keeps = λ s h. h }
 
-  pub here-shifts : {A : Type 0} (g : A → A) (n : ℕ) → Shifts f P g (refuseHere n) (refuseHere n)
+  pub here-shifts : {A : Type 0} (g : A → A) (n : ℕ) → eqb n 34 ≡ false → Shifts f P g (refuseHere n) (refuseHere n)
   unfolding refuseHere carry moveLine moveToken moveRefusal
-  here-shifts g n = record { law = λ s. refl; keeps = λ s h. tt }
+  here-shifts g n m = record { law = λ s. refl; keeps = λ s h. m }
 
-  pub expect-shifts : (a : Char) (n : ℕ) → Shifts f P same (expect a n) (expect a n)
+  pub expect-shifts : (a : Char) (n : ℕ) → eqb n 34 ≡ false → Shifts f P same (expect a n) (expect a n)
   unfolding expect
-  expect-shifts a n = bind _ kind-shifts λ k. whether (isMark a k) next-shifts (here-shifts same n)
+  expect-shifts a n m = bind _ kind-shifts λ k. whether (isMark a k) next-shifts (here-shifts same n m)
 
   -- Expressions.
   character-shifts : (c : Bool) (s : List ℕ) (x : Lexeme) → Shifts f P same (character c s x) (character c s ((moveToken f) x))
   unfolding character moveToken moveRecord
-  character-shifts false s x = here-shifts same 16
-  character-shifts true [] x = here-shifts same 17
+  character-shifts false s x = here-shifts same 16 refl
+  character-shifts true [] x = here-shifts same 17 refl
   character-shifts true (c ∷ []) x = andThen next-shifts (writes (VC (x .from) (x .to) c))
-  character-shifts true (c ∷ d ∷ s) x = here-shifts same 17
+  character-shifts true (c ∷ d ∷ s) x = here-shifts same 17 refl
 
   atomOf-shifts : (k : Kind) (x : Lexeme) → Shifts f P same (atomOf k x) (atomOf k ((moveToken f) x))
   unfolding atomOf moveToken moveRecord
@@ -197,13 +228,13 @@ module _ (f : ℕ → ℕ) (P : Line → Type 0) (closed : (s : Line) → P s �
   atomOf-shifts (quoted closed s) x = character-shifts closed s x
   atomOf-shifts (word w) x = andThen next-shifts (writes (VL (x .from) (x .to)))
   atomOf-shifts (mark c) x = whether (is "$" c) (andThen next-shifts (bind _ kind-shifts λ k.
-      whether (isMark "$" k) (andThen next-shifts (writes (VS (x .from) (x .to)))) (writes (VI (x .from) (x .to))))) (here-shifts same 21)
-  atomOf-shifts newline x = here-shifts same 21
-  atomOf-shifts blank x = here-shifts same 21
-  atomOf-shifts comment x = here-shifts same 21
-  atomOf-shifts invalid x = here-shifts same 21
-  atomOf-shifts end x = here-shifts same 21
-  atomOf-shifts (bad n) x = here-shifts same 21
+      whether (isMark "$" k) (andThen next-shifts (writes (VS (x .from) (x .to)))) (writes (VI (x .from) (x .to))))) (here-shifts same 21 refl)
+  atomOf-shifts newline x = here-shifts same 21 refl
+  atomOf-shifts blank x = here-shifts same 21 refl
+  atomOf-shifts comment x = here-shifts same 21 refl
+  atomOf-shifts invalid x = here-shifts same 21 refl
+  atomOf-shifts end x = here-shifts same 21 refl
+  atomOf-shifts (bad n) x = here-shifts same 21 refl
 
   atom-shifts : Shifts f P same atom atom
   unfolding atom moveToken
@@ -213,9 +244,9 @@ module _ (f : ℕ → ℕ) (P : Line → Type 0) (closed : (s : Line) → P s �
     primary-shifts : Shifts f P same (primary inner) (primary inner)
     unfolding primary moveToken moveRecord moveRefusal
     primary-shifts = bind _ ahead-shifts λ x.
-      whether (isMark "(" (x .kind)) (andThen (andThen next-shifts (each 0)) (expect-shifts ")" 14))
+      whether (isMark "(" (x .kind)) (andThen (andThen next-shifts (each 0)) (expect-shifts ")" 14 refl))
       (perhaps (operatorOf (x .kind)) atom-shifts λ op. andThen next-shifts (andThen
-        (whether (ltb op 2) (each prefixLevel) (refuses same (nowhere 22)))
+        (whether (ltb op 2) (each prefixLevel) (refuses same (nowhere 22) tt))
         (bind _ passed-shifts λ t. writes (PF (x .from) t op))))
 
     infixes-shifts : (n level p : ℕ) → Shifts f P same (infixes n inner level p) (infixes n inner level (f p))
@@ -227,7 +258,7 @@ module _ (f : ℕ → ℕ) (P : Line → Type 0) (closed : (s : Line) → P s �
 
   expr-shifts : (d level : ℕ) → Shifts f P same (expr d level) (expr d level)
   unfolding expr moveToken
-  expr-shifts zero level = here-shifts same 3
+  expr-shifts zero level = here-shifts same 3 refl
   expr-shifts (suc d) level = bind _ ahead-shifts λ x. andThen (primary-shifts (expr-shifts d)) (bind _ left-shifts λ n.
       infixes-shifts (expr-shifts d) n level (x .from))
 
@@ -246,8 +277,8 @@ module _ (f : ℕ → ℕ) (P : Line → Type 0) (closed : (s : Line) → P s �
   unfolding plusIndex moveToken moveRefusal
   plusIndex-shifts p r = andThen next-shifts (bind _ ahead-shifts λ x. perhaps (nameIn registers (x .kind)) (returns (Option-map same) none) λ q.
       whether (isIndex q)
-        (andThen next-shifts (bind _ passed-shifts λ t. whether (isIndex r) (refuses (Option-map same) (at 33 p t)) (returns (Option-map same) (some (paired r q)))))
-        (refuses (Option-map same) (encoding p (x .to) r q)))
+        (andThen next-shifts (bind _ passed-shifts λ t. whether (isIndex r) (refuses (Option-map same) (at 33 p t) refl) (returns (Option-map same) (some (paired r q)))))
+        (refuses (Option-map same) (encoding p (x .to) r q) tt))
 
   second-shifts : (p r : ℕ) → Shifts f P same (second p r) (second (f p) r)
   unfolding second
@@ -257,7 +288,7 @@ module _ (f : ℕ → ℕ) (P : Line → Type 0) (closed : (s : Line) → P s �
   unfolding registersAhead moveToken moveRefusal
   registersAhead-shifts = bind _ ahead-shifts λ x. bind _ passed-shifts λ t. perhaps (nameIn registers (x .kind)) (returns same none) λ r.
       whether (isBase r || isIndex r) (andThen next-shifts (bind _ (second-shifts (x .from) r) λ e. returns same (some e)))
-        (refuses same (encoding (x .from) t r 255))
+        (refuses same (encoding (x .from) t r 255) tt)
 
   displacement-shifts : Shifts f P same displacement displacement
   unfolding displacement
@@ -265,19 +296,19 @@ module _ (f : ℕ → ℕ) (P : Line → Type 0) (closed : (s : Line) → P s �
 
   close-shifts : (p size segment : ℕ) (e : Option ℕ) (has : ℕ) → Shifts f P same (close p size segment e has) (close (f p) size segment e has)
   unfolding close moveRecord moveRefusal
-  close-shifts p size segment e has = andThen (expect-shifts "]" 13) (bind _ passed-shifts λ t. perhaps e
-      (whether (eqb has 0) (refuses same (at 32 p t)) (writes (OD p t size segment)))
+  close-shifts p size segment e has = andThen (expect-shifts "]" 13 refl) (bind _ passed-shifts λ t. perhaps e
+      (whether (eqb has 0) (refuses same (at 32 p t) refl) (writes (OD p t size segment)))
       λ n. writes (OX p t n has size segment))
 
   override-shifts : Shifts f P same override override
   unfolding override
-  override-shifts = bind _ kind-shifts λ k. perhaps (nameIn segments k) (returns same 0) λ s. andThen next-shifts (andThen (expect-shifts ":" 12) (returns same (suc s)))
+  override-shifts = bind _ kind-shifts λ k. perhaps (nameIn segments k) (returns same 0) λ s. andThen next-shifts (andThen (expect-shifts ":" 12 refl) (returns same (suc s)))
 
   memory-shifts : (size : ℕ) → Shifts f P same (memory size) (memory size)
   unfolding memory moveToken
   memory-shifts size = bind _ ahead-shifts λ x. andThen next-shifts (bind _ kind-shifts λ k. whether (isWord k)
       (bind _ override-shifts λ s. bind _ registersAhead-shifts λ e. bind _ displacement-shifts λ has. close-shifts (x .from) size s e has)
-      (whether (isNumber k) (andThen expression-shifts (close-shifts (x .from) size 0 none 1)) (here-shifts same 24)))
+      (whether (isNumber k) (andThen expression-shifts (close-shifts (x .from) size 0 none 1)) (here-shifts same 24 refl)))
 
   operandSized-shifts : (n size : ℕ) → Shifts f P same (operandSized n size) (operandSized n size)
   unfolding operandSized moveToken moveRecord
@@ -299,4 +330,20 @@ module _ (f : ℕ → ℕ) (P : Line → Type 0) (closed : (s : Line) → P s �
         (bind _ passed-shifts λ t. returns (moveOperands f) (record { count = 1; from = x .from; to = t }))
         (whether (isMark "," k)
           (andThen next-shifts (andThen operand-shifts (bind _ passed-shifts λ t. returns (moveOperands f) (record { count = 2; from = x .from; to = t }))))
-          (here-shifts (moveOperands f) 11))))
+          (here-shifts (moveOperands f) 11 refl))))
+
+-- No 34 within a line.
+pub record Gentle {A : Type 0} (m : Reader Line A) : Type 0 where
+  pub law : (s : Line) → Stays (λ _. Unit {0}) Mild (m s)
+
+pub next-mild : Gentle next
+unfolding next step
+next-mild = record { law = λ s. go (s .more) s }
+  where
+    go : (xs : List Lexeme) (s : Line) → Stays (λ _. Unit {0}) Mild (step xs s)
+    go [] s = tt
+    go (x ∷ xs) s = arrive-stays (λ _. Unit {0}) Mild x _ (λ n e. bad-mild (x .kind) n e) tt
+
+-- What moves is gentle: the walk says so for any P.
+pub gentle : {A : Type 0} {g : A → A} {m m′ : Reader Line A} → ((P : Line → Type 0) → ((s : Line) → P s → Stays P Mild (next s)) → Shifts same P g m m′) → Gentle m
+gentle p = record { law = λ s. p (λ _. Unit {0}) (λ l h. next-mild .law l) .keeps s tt }

@@ -15,7 +15,7 @@ use Rattle.rules.specs.Reader.{Refusal, at, nowhere, encoding, Answer, d
 use Rattle.rules.specs.Operands.{isWord, Operands, operands}
 use Rattle.rules.specs.Expressions.{expression}
 use Rattle.rules.specs.Statements.{Row, State, over, inLine, firstOf, enter, stepRow, nextRow, lineEnd, skip, skipLines, passing, label, rep, repne, instruction, constant, literalOf, literals, someData, dataOf, line, content, times, begun, statement, statements, readRows}
-use Rattle.rules.proofs.Move.{Stays, same, carry, Moves, bind, andThen, returns, writes, refuses, whether, perhaps, moveToken, moveRefusal, moveLine, Shifts, arrive-moves, next-shifts, ahead-shifts, kind-shifts, passed-shifts, left-shifts, here-shifts, expression-shifts, moveOperands, operands-shifts}
+use Rattle.rules.proofs.Move.{Mild, Any, Stays, arrive-stays, next-mild, same, carry, Moves, bind, andThen, returns, writes, refuses, whether, perhaps, moveToken, moveRefusal, moveLine, Shifts, arrive-moves, next-shifts, ahead-shifts, kind-shifts, passed-shifts, left-shifts, here-shifts, expression-shifts, moveOperands, operands-shifts}
 
 module _ (f : ℕ → ℕ) where
   unfoldable pub moveRow : Row → Row
@@ -47,17 +47,14 @@ module _ (f : ℕ → ℕ) where
   skip-shifts l (r ∷ rs) = if-carry same (isLineEnd (l .here .kind)) _ _ _ _ (arrive-moves f moveState same (r .first) _ _ (skip-shifts _ rs)) refl
 
 
-unit-stays : {A : Type 0} (p : Answer Line A) → Stays (λ _. Unit {0}) p
-unit-stays (done w a l) = tt
-unit-stays (refused r) = tt
 
-pub unit-state : (l : Line) (rs : List Row) → Unit {0} → Stays (λ _. Unit {0}) (next l)
-unit-state l rs h = unit-stays (next l)
+pub unit-state : (l : Line) (rs : List Row) → Unit {0} → Stays (λ _. Unit {0}) Mild (next l)
+unit-state l rs h = next-mild .law l
 
 pub unit-row : (l : Line) (r : Row) (rs : List Row) → Unit {0} → Unit {0}
 unit-row l r rs h = tt
 
-module _ (f : ℕ → ℕ) (P : Line → Type 0) (closed : (s : Line) → P s → Stays P (next s)) where
+module _ (f : ℕ → ℕ) (P : Line → Type 0) (closed : (s : Line) → P s → Stays P Mild (next s)) where
   pub label-shifts : (x : Lexeme) → Shifts f P same (label x) (label (moveToken f x))
   unfolding label moveToken moveRecord
   label-shifts x = bind _ (kind-shifts f P closed) λ k. andThen (whether (isMark ":" k) (next-shifts f P closed) (returns same tt)) (writes (LL (x .from) (x .to)))
@@ -66,16 +63,16 @@ module _ (f : ℕ → ℕ) (P : Line → Type 0) (closed : (s : Line) → P s �
   unfolding literalOf
   literalOf-shifts newline width o = returns same []
   literalOf-shifts end width o = returns same []
-  literalOf-shifts (mark c) width o = whether (is "," c) (andThen (next-shifts f P closed) o) (here-shifts f P closed same 15)
-  literalOf-shifts (quoted shut s) width o = whether shut (bind _ (andThen (next-shifts f P closed) o) λ ds. returns same (s ++ ds)) (here-shifts f P closed same 26)
+  literalOf-shifts (mark c) width o = whether (is "," c) (andThen (next-shifts f P closed) o) (here-shifts f P closed same 15 refl)
+  literalOf-shifts (quoted shut s) width o = whether shut (bind _ (andThen (next-shifts f P closed) o) λ ds. returns same (s ++ ds)) (here-shifts f P closed same 26 refl)
   literalOf-shifts (number v) width o = bind _ (andThen (next-shifts f P closed) o) λ ds. returns same (take width (field v) ++ ds)
-  literalOf-shifts (word w) width o = here-shifts f P closed same 15
-  literalOf-shifts blank width o = here-shifts f P closed same 15
-  literalOf-shifts comment width o = here-shifts f P closed same 15
-  literalOf-shifts invalid width o = here-shifts f P closed same 15
-  literalOf-shifts (bad r) width o = here-shifts f P closed same 15
+  literalOf-shifts (word w) width o = here-shifts f P closed same 15 refl
+  literalOf-shifts blank width o = here-shifts f P closed same 15 refl
+  literalOf-shifts comment width o = here-shifts f P closed same 15 refl
+  literalOf-shifts invalid width o = here-shifts f P closed same 15 refl
+  literalOf-shifts (bad r) width o = here-shifts f P closed same 15 refl
 
-  literals-shifts : (n width : ℕ) → Shifts f P same (literals n width) (literals n width)
+  pub literals-shifts : (n width : ℕ) → Shifts f P same (literals n width) (literals n width)
   unfolding literals
   literals-shifts zero width = returns same []
   literals-shifts (suc n) width = bind _ (kind-shifts f P closed) λ k. literalOf-shifts k width (literals-shifts n width)
@@ -83,45 +80,37 @@ module _ (f : ℕ → ℕ) (P : Line → Type 0) (closed : (s : Line) → P s �
 
 module _ (f : ℕ → ℕ) (P : State → Type 0) where
   abbrev pub ShiftsState : {A : Type 0} → (A → A) → Reader State A → Reader State A → Type 0
-  ShiftsState g m m′ = Moves (moveState f) (moveRecord f) (moveRefusal f) P g m m′
+  ShiftsState g m m′ = Moves (moveState f) (moveRecord f) (moveRefusal f) P Any g m m′
 
 -- The laws of what reads in a line, for any P of lines, and of what reads in a state.
 module _ (f : ℕ → ℕ) (P : State → Type 0)
-    (closed : (l : Line) (rs : List Row) → P (record { line = l; below = rs }) → Stays (λ t. P (record { line = t; below = rs })) (next l))
+    (closed : (l : Line) (rs : List Row) → P (record { line = l; below = rs }) → Stays (λ t. P (record { line = t; below = rs })) Mild (next l))
     (closed-row : (l : Line) (r : Row) (rs : List Row) → P (record { line = l; below = r ∷ rs }) → P (enter r rs)) where
-  over-stays : {A : Type 0} (rs : List Row) (p : Answer Line A) → Stays (λ t. P (record { line = t; below = rs })) p → Stays P (over rs p)
+  over-stays : {A : Type 0} (rs : List Row) (p : Answer Line A) → Stays (λ t. P (record { line = t; below = rs })) Mild p → Stays P Any (over rs p)
   unfolding over
   over-stays rs (done w a l) h = h
   over-stays rs (refused r) h = tt
 
-  arrive-stays : {A : Type 0} (x : Lexeme) (p : Answer State A) → Stays P p → Stays P (arrive x p)
-  unfolding arrive
-  arrive-stays x p h = go (refusedAs (x .kind))
-    where
-      go : (o : Option ℕ) → Stays P (maybe o p (λ n. refused (at n (x .from) (x .to))))
-      go none = h
-      go (some n) = tt
-
-  stepRow-stays : (l : Line) (rs : List Row) → P (record { line = l; below = rs }) → Stays P (stepRow rs (record { line = l; below = rs }))
+  stepRow-stays : (l : Line) (rs : List Row) → P (record { line = l; below = rs }) → Stays P Any (stepRow rs (record { line = l; below = rs }))
   unfolding stepRow
   stepRow-stays l [] h = h
-  stepRow-stays l (r ∷ rs) h = arrive-stays (r .first) _ (closed-row l r rs h)
+  stepRow-stays l (r ∷ rs) h = arrive-stays P Any (r .first) _ (λ n e. tt) (closed-row l r rs h)
 
-  skip-stays : (l : Line) (rs : List Row) → P (record { line = l; below = rs }) → Stays P (skip l rs)
+  skip-stays : (l : Line) (rs : List Row) → P (record { line = l; below = rs }) → Stays P Any (skip l rs)
   unfolding skip enter
   skip-stays l [] h = h
   skip-stays l (r ∷ rs) h = go (isLineEnd (l .here .kind)) (skip-stays _ rs (closed-row l r rs h))
     where
       t : Line
       t = firstOf r
-      go : (c : Bool) → Stays P (skip t rs) → Stays P (if_then_else_ {A = Answer State (Unit {0})} c (arrive (r .first) (skip t rs)) (done [] tt (record { line = l; below = r ∷ rs })))
-      go true i = arrive-stays (r .first) (skip t rs) i
+      go : (c : Bool) → Stays P Any (skip t rs) → Stays P Any (if_then_else_ {A = Answer State (Unit {0})} c (arrive (r .first) (skip t rs)) (done [] tt (record { line = l; below = r ∷ rs })))
+      go true i = arrive-stays P Any (r .first) (skip t rs) (λ n e. tt) i
       go false i = h
 
-  pub inLines : {A : Type 0} {g : A → A} {m m′ : Reader Line A} → ((Q : Line → Type 0) → ((l : Line) → Q l → Stays Q (next l)) → Shifts f Q g m m′) → ShiftsState f P g (inLine m) (inLine m′)
+  pub inLines : {A : Type 0} {g : A → A} {m m′ : Reader Line A} → ((Q : Line → Type 0) → ((l : Line) → Q l → Stays Q Mild (next l)) → Shifts f Q g m m′) → ShiftsState f P g (inLine m) (inLine m′)
   unfolding inLine moveState
   inLines {g = g} {m} p = record {
-    law = λ s. ap (over (map (moveRow f) (s .below))) (p (λ _. Unit {0}) (λ l h. unit-stays (next l)) .law (s .line)) ∙ over-carry f g (s .below) (m (s .line));
+    law = λ s. ap (over (map (moveRow f) (s .below))) (p (λ _. Unit {0}) (λ l h. next-mild .law l) .law (s .line)) ∙ over-carry f g (s .below) (m (s .line));
     keeps = λ s h. over-stays (s .below) (m (s .line)) (p (λ t. P (record { line = t; below = s .below })) (λ l i. closed l (s .below) i) .keeps (s .line) h) }
 
   nextRow-shifts : ShiftsState f P same nextRow nextRow
@@ -130,7 +119,7 @@ module _ (f : ℕ → ℕ) (P : State → Type 0)
 
   lineEnd-shifts : ShiftsState f P same lineEnd lineEnd
   unfolding lineEnd
-  lineEnd-shifts = bind _ (inLines (kind-shifts f)) λ k. whether (isLineEnd k) nextRow-shifts (inLines (λ Q c. here-shifts f Q c same 10))
+  lineEnd-shifts = bind _ (inLines (kind-shifts f)) λ k. whether (isLineEnd k) nextRow-shifts (inLines (λ Q c. here-shifts f Q c same 10 refl))
 
   pub skipLines-shifts : ShiftsState f P same skipLines skipLines
   unfolding skipLines moveState
@@ -152,7 +141,7 @@ module _ (f : ℕ → ℕ) (P : State → Type 0)
 
   someData-shifts : (x : Lexeme) (ds : List ℕ) → ShiftsState f P same (someData x ds) (someData (moveToken f x) ds)
   unfolding someData moveToken moveRecord moveRefusal
-  someData-shifts x [] = refuses same (at 23 (x .from) (x .to))
+  someData-shifts x [] = refuses same (at 23 (x .from) (x .to)) tt
   someData-shifts x (b ∷ bs) = bind _ (inLines (passed-shifts f)) λ t. andThen lineEnd-shifts (writes (LD (x .from) t (b ∷ bs)))
 
   pub dataOf-shifts : (x : Lexeme) (width : ℕ) → ShiftsState f P same (dataOf x width) (dataOf (moveToken f x) width)
@@ -163,16 +152,16 @@ module _ (f : ℕ → ℕ) (P : State → Type 0)
     line-shifts : {m : Reader State (Unit {0})} → ShiftsState f P same m m → ShiftsState f P same (line table m) (line table m)
     unfolding line moveToken
     line-shifts p = bind _ (inLines (ahead-shifts f)) λ x. perhaps (operationIn table (x .kind)) (perhaps (nameIn directives (x .kind))
-        (whether (isWord (x .kind)) (passing-shifts (inLines (λ Q c. label-shifts f Q c x))) (inLines (λ Q c. here-shifts f Q c same 20)))
+        (whether (isWord (x .kind)) (passing-shifts (inLines (λ Q c. label-shifts f Q c x))) (inLines (λ Q c. here-shifts f Q c same 20 refl)))
         λ n. whether (eqb n 0) (passing-shifts (constant-shifts x)) (whether (ltb n 3) (passing-shifts (dataOf-shifts x n)) p)) λ op. passing-shifts (instruction-shifts x op)
 
     pub content-shifts : {m : Reader State (Unit {0})} (x : Lexeme) → ShiftsState f P same m m → ShiftsState f P same (content table m x) (content table m (moveToken f x))
     unfolding content moveToken moveRecord moveRefusal
-    content-shifts x p = bind _ (inLines (kind-shifts f)) λ k. andThen (whether (isLineEnd k) (refuses same (at 34 (x .from) (x .to))) (line-shifts p)) (writes LT)
+    content-shifts x p = bind _ (inLines (kind-shifts f)) λ k. andThen (whether (isLineEnd k) (refuses same (at 34 (x .from) (x .to)) tt) (line-shifts p)) (writes LT)
 
     pub times-shifts : (n : ℕ) → ShiftsState f P same (times table n) (times table n)
     unfolding times
-    times-shifts zero = inLines (λ Q c. here-shifts f Q c same 5)
+    times-shifts zero = inLines (λ Q c. here-shifts f Q c same 5 refl)
     times-shifts (suc n) = bind _ (inLines (ahead-shifts f)) λ x. passing-shifts (andThen (inLines (expression-shifts f)) (andThen skipLines-shifts (content-shifts x (times-shifts n))))
 
     begun-shifts : ShiftsState f P same (begun table) (begun table)

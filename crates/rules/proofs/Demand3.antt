@@ -1,0 +1,295 @@
+-- DEMAND 3. The patch answers as the full read of the edited source.
+use mathlib.Core.Path.{_≡_, refl, sym, ap, ap₂, _∙_}
+use mathlib.Core.Bool.{Bool, true, false, not, _&&_, _||_, true≢false, false≢true}
+use mathlib.Core.List.{List, [], _∷_, _++_, map, append-assoc, append-nil}
+use mathlib.Core.Option.{Option, none, some}
+use Prim.Native.Nat.{ℕ, zero, suc, pred, _+_, _-_, _≤_, zero-le}
+use native.Mathlib.Omega.{arith}
+use native.Mathlib.Nat.{le-trans}
+use lib.Dec.{eqb, leb, ltb}
+use lib.ListN.{length, take, drop, getD, length-append, take-append-drop, length-take}
+use lib.Seq.{length-take-le}
+use borrow.Author.Tests.{ne-eqb, not-false, le-ltb, ltb-false, eqb-true, leb-true, le-leb}
+use Rattle.lexer.specs.Text.{if_then_else_, maybe, is, among, run}
+use Rattle.lexer.specs.Tokens.{inComment}
+use Rattle.rules.specs.Records.{Record, ST, VC, VL, VI, VS, PF, IN, OR, OS, OI, OF, OD, OX, LL, LI, LD, LC, LT, moveRecord, listing}
+use Rattle.rules.specs.Reader.{Refusal, at, nowhere, encoding, Answer, done, refused, after}
+use Rattle.rules.specs.Statements.{Row, State, rows, readRows, Outcome, accepted, refusal, outcome, readFrom, fullRead}
+use Rattle.lexer.proofs.TokensLine.{Lines}
+use Rattle.rules.specs.Calls.{Result, gives, refuses, unless, mostBytes, tooLong, foreign, ascii, lent, inRoom, listed, fullCall}
+use Rattle.rules.specs.Decode.{decode}
+use Rattle.rules.specs.WellFormed.{wellFormed}
+use Rattle.rules.specs.Patch.{beginsLine, above, lineAt, behind, edited, linesFrom, nearest, lacksContent, isOpen, leavesOpen, openLine, statementFrom, recordsBelow, recordsOn, Edit, exchanged, placedIn, reread, patched, patch}
+use Rattle.rules.proofs.Shape.{Small}
+use Rattle.rules.proofs.Table.{Proper, and-both}
+use Rattle.rules.proofs.Cut.{IsOpen, Gives, lineFeed, from-run, accepts-run, refuses-run, gives as given}
+use Rattle.rules.proofs.Listing.{Inner, Headed, inner-append, from-mono, gives-fits, gives-feed, listing-formed, listing-decodes}
+use Rattle.rules.proofs.Exchange.{whole, Near, near-open, Behind, nothing, feed, Exchange, Closed, exchange, gives-same}
+
+-- The answer of the patch that goes with an answer of the full read of the edited source.
+unfoldable pub edits : List ℕ → Result (List Record) → Result Edit
+edits s (gives w) = gives (record { source = s; records = w })
+edits s (refuses r) = refuses r
+
+below-kept : (a : ℕ) (w v : List Record) → Inner a w → Headed a v → recordsBelow a (w ++ v) ≡ w
+unfolding recordsBelow
+below-kept a [] [] i h = refl
+below-kept a [] (r ∷ rs) i h = rw h
+below-kept a (r ∷ rs) v i h = rw (i .0) (ap (λ (l : List Record). r ∷ l) (below-kept a rs v (i .1) h))
+
+on-rest : (a : ℕ) (w v : List Record) → Inner a w → Headed a v → recordsOn a (w ++ v) ≡ v
+unfolding recordsOn
+on-rest a [] [] i h = refl
+on-rest a [] (r ∷ rs) i h = rw h
+on-rest a (r ∷ rs) v i h = rw (i .0) (on-rest a rs v (i .1) h)
+
+headed-append : (a : ℕ) (w v : List Record) → Headed a w → Headed a v → Headed a (w ++ v)
+headed-append a [] v i j = j
+headed-append a (r ∷ rs) v i j = i
+
+module _ (a b : ℕ) (h : a ≤ b) where
+  inner-mono : (w : List Record) → Inner a w → Inner b w
+  inner-mono [] i = tt
+  inner-mono (r ∷ rs) i = (from-mono a b h r (i .0), inner-mono rs (i .1))
+
+  headed-mono : (w : List Record) → Headed b w → Headed a w
+  headed-mono [] i = tt
+  headed-mono (r ∷ rs) i = go (statementFrom a r) refl
+    where
+      go : (c : Bool) → statementFrom a r ≡ c → c ≡ true
+      go true e = refl
+      go false e = absurd (true≢false (sym i ∙ from-mono a b h r e))
+
+small-split : (a b : List ℕ) → Small (a ++ b) → Small a × Small b
+small-split [] b h = (tt, h)
+small-split (c ∷ a) b h = let (i, j) = small-split a b (h .1) in ((h .0, i), j)
+
+small-append : (a b : List ℕ) → Small a → Small b → Small (a ++ b)
+small-append [] b h i = i
+small-append (c ∷ a) b h i = (h .0, small-append a b (h .1) i)
+
+small-parts : (n : ℕ) (s : List ℕ) → Small s → Small (take n s) × Small (drop n s)
+small-parts n s h = small-split (take n s) (drop n s) (rw (take-append-drop n s) h)
+
+small-same : {s t : List ℕ} → s ≡ t → Small s → Small t
+small-same e h = rw e at h
+
+open-outcome : (a : Answer State (Unit {0})) → IsOpen a → isOpen (outcome a) ≡ true
+unfolding isOpen outcome lacksContent
+open-outcome (done w x u) h = absurd h
+open-outcome (refused (at n f t)) h = h
+open-outcome (refused (nowhere n)) h = absurd h
+open-outcome (refused (encoding f t a b)) h = absurd h
+
+-- The parts of a source at a line.
+split-line : (s : List ℕ) (a : ℕ) → s ≡ above s a ++ (lineAt s a ++ behind s a)
+unfolding above lineAt behind
+split-line s a = sym (ap (λ (l : List ℕ). take a s ++ l) (take-append-drop (run inComment (drop a s)) (drop a s)) ∙ take-append-drop a s)
+
+feed-byte : (c : ℕ) → is "\n" c ≡ true → c ≡ 10
+unfolding is
+feed-byte c e = eqb-true c 10 e
+
+run-behind : (s : List ℕ) → Behind (drop (run inComment s) s)
+unfolding run inComment
+run-behind [] = nothing
+run-behind (c ∷ cs) = go (is "\n" c) refl (run-behind cs)
+  where
+    go : (b : Bool) → is "\n" c ≡ b → Behind (drop (run inComment cs) cs) → Behind (drop (if not b then suc (run inComment cs) else 0) (c ∷ cs))
+    go false e r = r
+    go true e r = rw (feed-byte c e) (feed cs)
+
+lines-take : (n : ℕ) (s : List ℕ) → getD s n 0 ≡ 10 → Lines (take (suc n) s)
+lines-take n [] h = let z : _≡_ {A = ℕ} 0 10 = h in absurd (omega arith)
+lines-take zero (c ∷ cs) h = h
+lines-take (suc n) (c ∷ []) h = let z : _≡_ {A = ℕ} 0 10 = h in absurd (omega arith)
+lines-take (suc n) (c ∷ d ∷ ds) h = lines-take n (d ∷ ds) h
+
+-- what the first test says
+pub record Line-at (s : List ℕ) (a : ℕ) : Type 0 where
+  pub fits : a ≤ length s
+  pub lines : Lines (take a s)
+
+line-at : (s : List ℕ) (a : ℕ) → beginsLine s a ≡ true → Line-at s a
+unfolding beginsLine
+line-at s zero h = record { fits = zero-le; lines = tt }
+line-at s (suc n) h =
+    let e : eqb (suc n) 0 ≡ false = ne-eqb (suc n) 0 (λ (i : suc n ≡ 0). omega arith) in
+    let (i, j) = and-both (leb (suc n) (length s)) (is "\n" (getD s n 0)) (rw e at h) in
+    record { fits = leb-true (suc n) (length s) i; lines = lines-take n s (feed-byte (getD s n 0) j) }
+
+feed-is : is "\n" 10 ≡ true
+unfolding is
+feed-is = refl
+
+whole-from : (l : List ℕ) (c : ℕ) (cs : List ℕ) → Lines (c ∷ cs) → whole (linesFrom l (c ∷ cs)) ≡ l ++ (c ∷ cs)
+unfolding whole linesFrom lineFeed
+whole-from l c [] h = rw (h, feed-is) (append-nil (l ++ (10 ∷ [])))
+whole-from l c (d ∷ ds) h = go (is "\n" c) refl (whole-from [] d ds h) (whole-from (l ++ (c ∷ [])) d ds h)
+  where
+    go : (b : Bool) → is "\n" c ≡ b → whole (linesFrom [] (d ∷ ds)) ≡ d ∷ ds → whole (linesFrom (l ++ (c ∷ [])) (d ∷ ds)) ≡ (l ++ (c ∷ [])) ++ (d ∷ ds)
+        → whole (if b then (l ∷ linesFrom [] (d ∷ ds)) else (linesFrom (l ++ (c ∷ [])) (d ∷ ds))) ≡ l ++ (c ∷ d ∷ ds)
+    go true e i j = rw i (append-assoc l (10 ∷ []) (d ∷ ds) ∙ ap (λ (k : ℕ). l ++ (k ∷ d ∷ ds)) (sym (feed-byte c e)))
+    go false e i j = j ∙ append-assoc l (c ∷ []) (d ∷ ds)
+
+whole-lines : (A : List ℕ) → Lines A → whole (linesFrom [] A) ≡ A
+unfolding whole linesFrom
+whole-lines [] l = refl
+whole-lines (c ∷ cs) l = whole-from [] c cs l
+
+or-split : (b c : Bool) → b || c ≡ false → (b ≡ false) × (c ≡ false)
+or-split true c h = absurd (true≢false h)
+or-split false c h = (refl, h)
+
+-- what the patch's listing becomes
+unfoldable pub exchangedBy : ℕ → ℕ → ℕ → List Record → Outcome → Outcome
+exchangedBy a p q w (accepted v) = accepted (exchanged a p q w v)
+exchangedBy a p q w (refusal r) = refusal r
+
+unless-gives : {A : Type 0} (b : Bool) (r : Refusal) (x : Result A) (y : A) → unless b r x ≡ gives y → (b ≡ false) × (x ≡ gives y)
+unfolding unless
+unless-gives true r x y h = let z : _≡_ {A = ℕ} 0 1 = cc in absurd (omega arith)
+unless-gives false r x y h = (refl, h)
+
+-- bytes that are no more than 127
+none-foreign : (p : ℕ) (s : List ℕ) → foreign p s ≡ none → Small s
+unfolding foreign
+none-foreign p [] h = tt
+none-foreign p (c ∷ cs) h = go (ltb 127 c) refl h (λ e. none-foreign (suc p) cs e)
+  where
+    go : (b : Bool) → ltb 127 c ≡ b → _≡_ {A = Option ℕ} (if b then (some p) else (foreign (suc p) cs)) none → (foreign (suc p) cs ≡ none → Small cs) → (c ≤ 2147483647) × Small cs
+    go true e i again = let z : _≡_ {A = ℕ} 0 1 = cc in absurd (omega arith)
+    go false e i again = (omega (arith, ltb-false 127 c e), again i)
+
+ascii-gives : {A : Type 0} (s : List ℕ) (x : Result A) (y : A) → ascii s x ≡ gives y → Small s × (x ≡ gives y)
+unfolding ascii
+ascii-gives s x y h = go (foreign 0 s) refl h
+  where
+    go : (o : Option ℕ) → foreign 0 s ≡ o → maybe o x (λ p. refuses (at 2 p (suc p))) ≡ gives y → Small s × (x ≡ gives y)
+    go none e′ e = (none-foreign 0 s e′, e)
+    go (some p) e′ e = let z : _≡_ {A = ℕ} 0 1 = cc in absurd (omega arith)
+
+listed-gives : (room : ℕ) (o : Outcome) (w : List Record) → listed room o ≡ gives w → o ≡ accepted w
+unfolding listed inRoom
+listed-gives room (accepted v) w h = let (_, i) = unless-gives (ltb room (length (listing v))) (nowhere 4) (gives v) w h in cc
+listed-gives room (refusal r) w h = let z : _≡_ {A = ℕ} 0 1 = cc in absurd (omega arith)
+
+short-is : (s : List ℕ) → tooLong s ≡ false → length s ≤ 65536
+unfolding tooLong mostBytes
+short-is s e = ltb-false 65536 (length s) e
+
+edits-unless : (s : List ℕ) (b : Bool) (r : Refusal) (x : Result (List Record)) → edits s (unless b r x) ≡ unless b r (edits s x)
+unfolding unless edits
+edits-unless s true r x = refl
+edits-unless s false r x = refl
+
+edits-ascii : (s t : List ℕ) (x : Result (List Record)) → edits s (ascii t x) ≡ ascii t (edits s x)
+unfolding ascii edits
+edits-ascii s t x = go (foreign 0 t)
+  where
+    go : (o : Option ℕ) → edits s (maybe o x (λ p. refuses (at 2 p (suc p)))) ≡ maybe o (edits s x) (λ p. refuses (at 2 p (suc p)))
+    go none = refl
+    go (some p) = refl
+
+reread-is : (s : List ℕ) (w : List Record) (a : ℕ) (new : List ℕ) (roomS roomL : ℕ) → length (edited s a new) ≤ roomS → (o : Outcome)
+    → reread s w a new roomS roomL o ≡ edits (edited s a new) (listed roomL (exchangedBy a (length (lineAt s a)) (length new) w o))
+unfolding reread exchangedBy listed inRoom placedIn unless edits
+reread-is s w a new roomS roomL h (accepted v) = rw (le-ltb roomS (length (edited s a new)) h)
+    (sym (edits-unless (edited s a new) (ltb roomL (length (listing (exchanged a (length (lineAt s a)) (length new) w v)))) (nowhere 4) (gives (exchanged a (length (lineAt s a)) (length new) w v))))
+reread-is s w a new roomS roomL h (refusal r) = refl
+
+module _ (table : List ℕ) (proper : Proper table) where
+  closed : (l : List ℕ) → leavesOpen table l ≡ false → Closed table 0 l
+  unfolding Closed leavesOpen fullRead
+  closed l h a g o = true≢false (sym (ap isOpen (from-run table 0 l g) ∙ open-outcome a o) ∙ h)
+
+  -- A's reading lacks no content where the nearest line does not
+  closed-above : (A : List ℕ) → Lines A → maybe (nearest (linesFrom [] A)) false (leavesOpen table) ≡ false → Closed table 0 A
+  unfolding Closed leavesOpen fullRead
+  closed-above A l h a g o =
+      let m : Near table (linesFrom [] A) = near-open table 0 (linesFrom [] A) (gives-same table 0 (sym (whole-lines A l)) g) o in
+      let i : isOpen (readFrom table 0 (m .M)) ≡ false = rw (m .found) at h in
+      true≢false (sym (ap isOpen (from-run table 0 (m .M) (given table 0 (m .M))) ∙ open-outcome _ (m .opens _ (given table 0 (m .M)))) ∙ i)
+
+  module _ where
+    dropped-inner : (n : ℕ) (L B : List ℕ) → Behind B → (w : List Record) (u : State) → Small L → Gives table n (L ++ take 1 B) (done w tt u) → Inner (n + length L) w
+    unfolding lineFeed
+    dropped-inner n L B nothing w u m g = gives-fits table proper n L w u m (gives-same table n (append-nil L) g) .inner
+    dropped-inner n L B (feed C) w u m g = gives-feed table proper n L w u m g .inner
+
+    module _ (A L N B : List ℕ) (b : Behind B) (w : List Record) (smA : Small A) (smL : Small L) (smB : Small B) (E : Exchange table 0 A L N B w) where
+      after-line : Headed (0 + length A + length L) (E .rest)
+      after-line = headed-mono (0 + length A + length L) (0 + length A + length (L ++ take 1 B)) (omega (arith, length-append L (take 1 B))) (E .rest)
+          (gives-fits table proper _ _ (E .rest) (E .u₂) (small-parts 1 B smB .1) (E .rests) .headed)
+
+      kept-is : recordsBelow (0 + length A) w ≡ E .kept
+      kept-is = ap (recordsBelow (0 + length A)) (E .joined) ∙ below-kept (0 + length A) (E .kept) (E .dropped ++ E .rest) (gives-fits table proper 0 A (E .kept) (E .u₀) smA (E .keeps) .inner)
+          (headed-append (0 + length A) (E .dropped) (E .rest) (gives-fits table proper _ _ (E .dropped) (E .u₁) (small-append L (take 1 B) smL (small-parts 1 B smB .0)) (E .drops) .headed)
+            (headed-mono (0 + length A) (0 + length A + length L) (omega arith) (E .rest) after-line))
+
+      rest-is : recordsOn (0 + length A + length L) w ≡ E .rest
+      rest-is = ap (recordsOn (0 + length A + length L)) (E .joined ∙ sym (append-assoc (E .kept) (E .dropped) (E .rest)))
+          ∙ on-rest (0 + length A + length L) (E .kept ++ E .dropped) (E .rest)
+            (inner-append (0 + length A + length L) (E .kept) (E .dropped)
+              (inner-mono (0 + length A) (0 + length A + length L) (omega arith) (E .kept) (gives-fits table proper 0 A (E .kept) (E .u₀) smA (E .keeps) .inner))
+              (dropped-inner (0 + length A) L B b (E .dropped) (E .u₁) smL (E .drops))) after-line
+
+      alike : (o : Outcome) → readFrom table (0 + length A) (N ++ take 1 B) ≡ o → readFrom table 0 (A ++ (N ++ B)) ≡ exchangedBy (0 + length A) (length L) (length N) w o
+      unfolding exchangedBy exchanged outcome
+      alike (accepted wN) h =
+          let (u, g) = accepts-run table (0 + length A) (N ++ take 1 B) wN h in
+          let (u′, e) = E .accepts wN u _ g (given table 0 (A ++ (N ++ B))) in
+          rw (kept-is, rest-is) (from-run table 0 (A ++ (N ++ B)) (given table 0 (A ++ (N ++ B))) ∙ ap outcome e)
+      alike (refusal r) h =
+          from-run table 0 (A ++ (N ++ B)) (given table 0 (A ++ (N ++ B))) ∙ ap outcome (E .refuses r _ (refuses-run table (0 + length A) (N ++ take 1 B) r h) (given table 0 (A ++ (N ++ B))))
+
+    -- The reading of the edited source, from that of the new line.
+    joined-alike : (A L N B : List ℕ) → Lines A → Behind B → Closed table 0 A → Closed table 0 L → Closed table 0 N → (w : List Record) (u : State) → Small (A ++ (L ++ B)) → Gives table 0 (A ++ (L ++ B)) (done w tt u)
+        → (a : ℕ) → a ≡ 0 + length A → readFrom table 0 (A ++ (N ++ B)) ≡ exchangedBy a (length L) (length N) w (readFrom table a (N ++ take 1 B))
+    joined-alike A L N B l b cA cL cN w u m g a e =
+        let (mA, q) = small-split A (L ++ B) m in
+        let (mL, mB) = small-split L B q in
+        rw e (alike A L N B b w mA mL mB (exchange table 0 A L N l cA cL cN b g) (readFrom table (0 + length A) (N ++ take 1 B)) refl)
+
+    reads-alike : (old : List ℕ) (a : ℕ) (new : List ℕ) (w : List Record) → beginsLine old a ≡ true → openLine table old a new ≡ false → Small old → fullRead table old ≡ accepted w
+        → fullRead table (edited old a new) ≡ exchangedBy a (length (lineAt old a)) (length new) w (readFrom table a (new ++ take 1 (behind old a)))
+    unfolding fullRead openLine edited above behind
+    reads-alike old a new w h o sm e =
+        let at′ : Line-at old a = line-at old a h in
+        let (i, j) = or-split (leavesOpen table (lineAt old a)) (leavesOpen table new || maybe (nearest (linesFrom [] (take a old))) false (leavesOpen table)) o in
+        let (k, m) = or-split (leavesOpen table new) (maybe (nearest (linesFrom [] (take a old))) false (leavesOpen table)) j in
+        let (u, g) = accepts-run table 0 old w e in
+        joined-alike (take a old) (lineAt old a) new (behind old a) (at′ .lines) (run-behind (drop a old)) (closed-above (take a old) (at′ .lines) m) (closed (lineAt old a) i) (closed new k)
+          w u (small-same (split-line old a) sm) (gives-same table 0 (split-line old a) g) a (omega (arith, length-take-le a old (at′ .fits)))
+
+  -- What an accepted full read says.
+  pub record Accepted (s : List ℕ) (w : List Record) : Type 0 where
+    pub short : length s ≤ 65536
+    pub small : Small s
+    pub reads : fullRead table s ≡ accepted w
+
+  pub accepted-call : (s : List ℕ) (room : ℕ) (w : List Record) → fullCall table s room ≡ gives w → Accepted s w
+  unfolding fullCall lent
+  accepted-call s room w h =
+      let (i, j) = unless-gives (tooLong s) (nowhere 1) (ascii s (listed room (fullRead table s))) w h in
+      let (sm, q) = ascii-gives s (listed room (fullRead table s)) w j in
+      record { short = short-is s i; small = sm; reads = listed-gives room (fullRead table s) w q }
+
+  patched-is : (old : List ℕ) (w : List Record) (a : ℕ) (new : List ℕ) (roomS roomL : ℕ) → beginsLine old a ≡ true → openLine table old a new ≡ false → Small old → fullRead table old ≡ accepted w → length (edited old a new) ≤ roomS
+      → patched table old (some w) a new roomS roomL ≡ edits (edited old a new) (listed roomL (fullRead table (edited old a new)))
+  unfolding patched unless
+  patched-is old w a new roomS roomL h o sm e r = rw (listing-formed table proper old w sm e, o, reads-alike old a new w h o sm e) (reread-is old w a new roomS roomL r (readFrom table a (new ++ take 1 (behind old a))))
+
+  -- DEMAND 3: for an accepted source with its listing, and a line that leaves no `times` open, the patch answers what the full read of the
+  -- edited source answers, lent the same listing buffer.
+  pub demand-3 : (old : List ℕ) (w : List Record) (a : ℕ) (new : List ℕ) (room roomS roomL : ℕ)
+      → fullCall table old room ≡ gives w → beginsLine old a ≡ true → among 10 new ≡ false → openLine table old a new ≡ false → length (edited old a new) ≤ roomS
+      → patch table old (listing w) a new roomS roomL ≡ edits (edited old a new) (fullCall table (edited old a new) roomL)
+  unfolding patch fullCall lent unless tooLong mostBytes
+  demand-3 old w a new room roomS roomL acc h f o r =
+      let A : Accepted old w = accepted-call old room w acc in
+      let d : decode (listing w) ≡ some w = listing-decodes table proper old w (A .small) (A .short) (A .reads) in
+      let i : ltb 65536 (length old) ≡ false = le-ltb 65536 (length old) (A .short) in
+      let ed : List ℕ = edited old a new in
+      rw (h, f, i, d, patched-is old w a new roomS roomL h o (A .small) (A .reads) r)
+        (sym (edits-unless ed (ltb 65536 (length ed)) (nowhere 1) (ascii ed (listed roomL (fullRead table ed))) ∙ ap (unless (ltb 65536 (length ed)) (nowhere 1)) (edits-ascii ed ed (listed roomL (fullRead table ed)))))

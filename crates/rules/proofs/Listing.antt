@@ -1,0 +1,257 @@
+-- The listing of a reading: well-formed, its statements in their places, and its bytes decode to its records.
+use mathlib.Core.Path.{_≡_, refl, sym, ap, _∙_}
+use mathlib.Core.Bool.{Bool, true, false, _&&_, true≢false}
+use mathlib.Core.List.{List, [], _∷_, _++_}
+use mathlib.Core.Option.{Option, none, some}
+use Prim.Native.Nat.{ℕ, zero, suc, _+_, _*_, _≤_, _<_, zero-le}
+use native.Mathlib.Omega.{arith}
+use native.Mathlib.Nat.{le-refl, le-trans}
+use lib.Dec.{eqb, leb, ltb}
+use lib.ListN.{length}
+use borrow.Author.Tests.{le-leb, lt-leb, leb-true, ltb-true}
+use Rattle.lexer.specs.Text.{maybe}
+use Rattle.rules.specs.Lexemes.{Lexeme, tokensFrom}
+use Rattle.rules.specs.Records.{Record, ST, VC, VL, VI, VS, PF, IN, OR, OS, OI, OF, OD, OX, LL, LI, LD, LC, LT, listing}
+use Rattle.rules.specs.Reader.{Refusal, Answer, done, refused, after}
+use Rattle.rules.specs.Statements.{Row, State, firstOf, enter, accepted, fullRead}
+use Rattle.rules.specs.Decode.{decode}
+use Rattle.rules.specs.WellFormed.{Stack, allow, complete, spans, given, checked, checkedAll, fresh, wellFormed, toExpression, toOperand, toLine, stack}
+use Rattle.rules.specs.Patch.{statementFrom}
+use Rattle.rules.proofs.Table.{Proper, and-both}
+use Rattle.rules.proofs.Append.{Reads, Begins, fine, broken}
+use Rattle.rules.proofs.Shape.{Extra, Small, Chain, chain-low, Run, nil, cons, On}
+use Rattle.rules.proofs.ShapeState.{flat, OnS, Ready, Stated, began, ended, failed, statement-stated}
+use Rattle.rules.proofs.LexSound.{chain-plain, chain-feed, flat-rows}
+use Rattle.rules.proofs.Cut.{rowsFrom, Gives, lineFeed, accepts-run}
+use Rattle.rules.proofs.Decoded.{Low, Ranged, AllRanged, decoded}
+
+-- No statement of these records is from hi on; the first of these is one from lo on.
+abbrev pub Inner : ℕ → List Record → Type 0
+Inner hi [] = Unit {0}
+Inner hi (r ∷ rs) = (statementFrom hi r ≡ false) × Inner hi rs
+
+abbrev pub Headed : ℕ → List Record → Type 0
+Headed lo [] = Unit {0}
+Headed lo (r ∷ rs) = statementFrom lo r ≡ true
+
+pub inner-append : (a : ℕ) (w v : List Record) → Inner a w → Inner a v → Inner a (w ++ v)
+inner-append a [] v i j = j
+inner-append a (r ∷ rs) v i j = (i .0, inner-append a rs v (i .1) j)
+
+module _ (a b : ℕ) (h : a ≤ b) where
+  leb-false-mono : (p : ℕ) → leb a p ≡ false → leb b p ≡ false
+  leb-false-mono p e = go (leb b p) refl
+    where
+      go : (c : Bool) → leb b p ≡ c → c ≡ false
+      go false i = refl
+      go true i = absurd (true≢false (sym (le-leb a p (le-trans h (leb-true b p i))) ∙ e))
+
+  pub from-mono : (r : Record) → statementFrom a r ≡ false → statementFrom b r ≡ false
+  unfolding statementFrom
+  from-mono (ST p) e = leb-false-mono p e
+  from-mono (VC p q v) e = refl
+  from-mono (VL p q) e = refl
+  from-mono (VI p q) e = refl
+  from-mono (VS p q) e = refl
+  from-mono (PF p q o) e = refl
+  from-mono (IN p q o) e = refl
+  from-mono (OR p q r) e = refl
+  from-mono (OS p q s) e = refl
+  from-mono (OI p q) e = refl
+  from-mono (OF p q) e = refl
+  from-mono (OD p q z s) e = refl
+  from-mono (OX p q e′ d z s) e = refl
+  from-mono (LL p q) e = refl
+  from-mono (LI p q o n p′ q′) e = refl
+  from-mono (LD p q d) e = refl
+  from-mono (LC p q) e = refl
+  from-mono LT e = refl
+
+
+abbrev pub Extras : List Record → Type 0
+Extras [] = Unit {0}
+Extras (r ∷ rs) = Extra r × Extras rs
+
+extras-append : (w v : List Record) → Extras w → Extras v → Extras (w ++ v)
+extras-append [] v h i = i
+extras-append (r ∷ rs) v h i = (h .0, extras-append rs v (h .1) i)
+
+fresh-ready : (lo : ℕ) → Ready lo fresh
+unfolding fresh complete
+fresh-ready lo = record { done′ = refl; from′ = zero-le }
+
+flat-from : (p : ℕ) (s : List ℕ) → flat (rowsFrom p s) ≡ tokensFrom p 0 s
+unfolding rowsFrom
+flat-from p s = flat-rows (tokensFrom p 0 s)
+
+chain-same : (n hi lo : ℕ) {xs ys : List Lexeme} → xs ≡ ys → Chain n hi lo xs → Chain n hi lo ys
+chain-same n hi lo e c = rw e at c
+
+-- A checked record's fields fit.
+given-true : (b : Bool) (o : Option Stack) {k : Stack} → given b o ≡ some k → b ≡ true
+unfolding given
+given-true true o h = refl
+given-true false o h = let z : _≡_ {A = ℕ} 0 1 = cc in absurd (omega arith)
+
+allow-true : (b : Bool) (x : Stack) {k : Stack} → allow b x ≡ some k → b ≡ true
+unfolding allow
+allow-true true o h = refl
+allow-true false o h = let z : _≡_ {A = ℕ} 0 1 = cc in absurd (omega arith)
+
+module _ (n : ℕ) (short : n ≤ 65536) where
+  spans-low : (k : Stack) (f t : ℕ) → spans n k f t ≡ true → Low f × Low t
+  unfolding spans
+  spans-low k f t h =
+      let (a, b) = and-both (leb (k .place) f && leb f t) (leb t n) h in
+      let (c, d) = and-both (leb (k .place) f) (leb f t) a in
+      (omega (arith, leb-true t n b, leb-true f t d), omega (arith, leb-true t n b))
+
+  spans-end : (k : Stack) (f t : ℕ) → spans n k f t ≡ true → t ≤ n
+  unfolding spans
+  spans-end k f t h = let (a, b) = and-both (leb (k .place) f && leb f t) (leb t n) h in leb-true t n b
+
+  module _ (k k′ : Stack) where
+    ranged : (r : Record) → checked n k r ≡ some k′ → Extra r → Ranged r
+    unfolding checked
+    ranged (ST p) e x =
+        let (a, b) = and-both (complete k && leb (k .floor) p) (leb p n) (allow-true _ _ e) in
+        omega (arith, leb-true p n b)
+    ranged (VC f t v) e x = let (a, b) = spans-low k f t (given-true (spans n k f t) _ e) in (a, b, omega arith)
+    ranged (VL f t) e x = spans-low k f t (given-true (spans n k f t) _ e)
+    ranged (VI f t) e x = spans-low k f t (given-true (spans n k f t) _ e)
+    ranged (VS f t) e x = spans-low k f t (given-true (spans n k f t) _ e)
+    ranged (PF f t o) e x =
+        let (s, i) = and-both (spans n k f t) (ltb o 2) (given-true _ _ e) in
+        let (a, b) = spans-low k f t s in (a, b, omega (arith, ltb-true o 2 i))
+    ranged (IN f t o) e x =
+        let (s, i) = and-both (spans n k f t) (ltb o 4) (given-true _ _ e) in
+        let (a, b) = spans-low k f t s in (a, b, omega (arith, ltb-true o 4 i))
+    ranged (OR f t r) e x =
+        let (s, i) = and-both (spans n k f t) (ltb r 16) (given-true _ _ e) in
+        let (a, b) = spans-low k f t s in (a, b, omega (arith, ltb-true r 16 i))
+    ranged (OS f t g) e x =
+        let (s, i) = and-both (spans n k f t) (ltb g 4) (given-true _ _ e) in
+        let (a, b) = spans-low k f t s in (a, b, omega (arith, ltb-true g 4 i))
+    ranged (OI f t) e x = spans-low k f t (given-true (spans n k f t) _ e)
+    ranged (OF f t) e x = spans-low k f t (given-true (spans n k f t) _ e)
+    ranged (OD f t z g) e x =
+        let (s, i) = and-both (spans n k f t && leb z 2) (leb g 4) (given-true _ _ e) in
+        let (s′, j) = and-both (spans n k f t) (leb z 2) s in
+        let (a, b) = spans-low k f t s′ in (a, b, omega (arith, leb-true z 2 j), omega (arith, leb-true g 4 i))
+    ranged (OX f t c d z g) e x =
+        let (s, i) = and-both (spans n k f t && ltb c 8 && leb d 1 && leb z 2) (leb g 4) (given-true _ _ e) in
+        let (s₁, i₁) = and-both (spans n k f t && ltb c 8 && leb d 1) (leb z 2) s in
+        let (s₂, i₂) = and-both (spans n k f t && ltb c 8) (leb d 1) s₁ in
+        let (s₃, i₃) = and-both (spans n k f t) (ltb c 8) s₂ in
+        let (a, b) = spans-low k f t s₃ in (a, b, omega (arith, ltb-true c 8 i₃), omega (arith, leb-true d 1 i₂), omega (arith, leb-true z 2 i₁), omega (arith, leb-true g 4 i))
+    ranged (LL f t) e x = spans-low k f t (given-true (spans n k f t) _ e)
+    ranged (LI f t o m f′ t′) e x =
+        let (s, i) = and-both (spans n k f t && ltb o 99 && leb m 2) (spans n k f′ t′) (given-true _ _ e) in
+        let (s₁, i₁) = and-both (spans n k f t && ltb o 99) (leb m 2) s in
+        let (s₂, i₂) = and-both (spans n k f t) (ltb o 99) s₁ in
+        let (a, b) = spans-low k f t s₂ in
+        let (a′, b′) = spans-low k f′ t′ i in (a, b, omega (arith, ltb-true o 99 i₂), omega (arith, leb-true m 2 i₁), a′, b′)
+    ranged (LD f t d) e x =
+        let (s, i) = and-both (spans n k f t) (ltb 0 (length d)) (given-true _ _ e) in
+        let (a, b) = spans-low k f t s in
+        let l : t ≤ n = spans-end k f t s in (a, b, omega arith)
+    ranged (LC f t) e x = spans-low k f t (given-true (spans n k f t) _ e)
+    ranged LT e x = tt
+
+  pub all-ranged : (k : Stack) (w : List Record) {top : Stack} → checkedAll n k w ≡ some top → Extras w → AllRanged w
+  unfolding checkedAll
+  all-ranged k [] h x = tt
+  all-ranged k (r ∷ rs) {top} h x = go (checked n k r) refl h (λ k′ e. all-ranged k′ rs e (x .1))
+    where
+      go : (o : Option Stack) → checked n k r ≡ o → maybe o none (λ k′. checkedAll n k′ rs) ≡ some top → ((k′ : Stack) → checkedAll n k′ rs ≡ some top → AllRanged rs) → Ranged r × AllRanged rs
+      go none e i again = let z : _≡_ {A = ℕ} 0 1 = cc in absurd (omega arith)
+      go (some k′) e i again = (ranged k k′ r e (x .0), again k′ i)
+
+module _ (table : List ℕ) (proper : Proper table) where
+  module _ (n hi : ℕ) where
+    run-checked : {k k′ : Stack} {w : List Record} (v : List Record) → Run n k w k′ → checkedAll n k (w ++ v) ≡ checkedAll n k′ v
+    unfolding checkedAll
+    run-checked v nil = refl
+    run-checked v (cons a x e r) = rw e (run-checked v r)
+
+    run-inner : {k k′ : Stack} {w : List Record} → Run n k w k′ → Inner hi w
+    run-inner nil = tt
+    run-inner (cons {r = r} a x e g) = (from-mono 0 hi zero-le r a, run-inner g)
+
+    run-extras : {k k′ : Stack} {w : List Record} → Run n k w k′ → Extras w
+    run-extras nil = tt
+    run-extras (cons a x e g) = (x, run-extras g)
+
+    pub record Fits (lo : ℕ) (κ : Stack) (w : List Record) : Type 0 where
+      pub top : Stack
+      pub checks : checkedAll n κ w ≡ some top
+      pub whole : complete top ≡ true
+      pub headed : Headed lo w
+      pub inner : Inner hi w
+      pub extras : Extras w
+
+    pub data Listed (lo : ℕ) (κ : Stack) : Answer State (Unit {0}) → Type 0 where
+      listed : {w : List Record} {u : State} → Fits lo κ w → Listed lo κ (done w tt u)
+      unlisted : {r : Refusal} → Listed lo κ (refused r)
+
+    none-more : (lo : ℕ) (κ : Stack) → Ready lo κ → Fits lo κ []
+    unfolding checkedAll
+    none-more lo κ y = record { top = κ; checks = refl; whole = y .done′; headed = tt; inner = tt; extras = tt }
+
+    first-fits : (lo q lo′ : ℕ) (κ κ₁ κ′ : Stack) (v w : List Record) → lo ≤ q → q < hi → checked n κ (ST q) ≡ some κ₁ → Run n κ₁ v κ′ → Fits lo′ κ′ w → Fits lo κ (ST q ∷ (v ++ w))
+    unfolding checkedAll statementFrom
+    first-fits lo q lo′ κ κ₁ κ′ v w i j e r f = record { top = f .top; checks = rw e (run-checked w r ∙ f .checks); whole = f .whole; headed = le-leb lo q i;
+      inner = (lt-leb hi q j, inner-append hi v w (run-inner r) (f .inner)); extras = (tt, extras-append v w (run-extras r) (f .extras)) }
+
+    with-first : (lo q lo′ : ℕ) (κ κ₁ κ′ : Stack) (v : List Record) → lo ≤ q → q < hi → checked n κ (ST q) ≡ some κ₁ → Run n κ₁ v κ′ → {p : Answer State (Unit {0})} → Listed lo′ κ′ p → Listed lo κ (after (ST q ∷ v) p)
+    unfolding after
+    with-first lo q lo′ κ κ₁ κ′ v i j e r (listed {w} f) = listed (first-fits lo q lo′ κ κ₁ κ′ v w i j e r f)
+    with-first lo q lo′ κ κ₁ κ′ v i j e r unlisted = unlisted
+
+    stop-listed : (lo : ℕ) (κ : Stack) {w : List Record} {t : State} → Ready lo κ → Stated n hi lo κ (done w false t) → Listed lo κ (done w tt t)
+    stop-listed lo κ y ended = listed (none-more lo κ y)
+
+    go-listed : (lo : ℕ) (κ : Stack) {w : List Record} {t : State} {p : Answer State (Unit {0})} → ((lo′ : ℕ) (κ′ : Stack) → Ready lo′ κ′ → OnS n hi 0 lo′ 0 κ′ κ′ t → Listed lo′ κ′ p)
+        → Stated n hi lo κ (done w true t) → Listed lo κ (after w p)
+    go-listed lo κ again (began {q} {lo′} {v} {κ₁ = κ₁} {κ′} i j l e r y o) = with-first lo q lo′ κ κ₁ κ′ v i j e r (again lo′ κ′ y o)
+
+    pub reads-listed : {s : State} {p : Answer State (Unit {0})} → Reads table s p → (lo : ℕ) (κ : Stack) → Ready lo κ → OnS n hi 0 lo 0 κ κ s → Listed lo κ p
+    reads-listed (Reads.stop {s} z) lo κ y o = stop-listed lo κ y (rw z at (statement-stated n hi table proper lo κ s y o))
+    reads-listed (Reads.fail z) lo κ y o = unlisted
+    reads-listed (Reads.go {s} z r) lo κ y o = go-listed lo κ (λ lo′ κ′ y′ o′. reads-listed r lo′ κ′ y′ o′) (rw z at (statement-stated n hi table proper lo κ s y o))
+
+    enter-on : (lo : ℕ) (κ : Stack) (r : Row) (rs : List Row) → Chain n hi lo (flat (r ∷ rs)) → OnS n hi 0 lo 0 κ κ (enter r rs)
+    unfolding enter firstOf
+    enter-on lo κ r rs c = record { same = refl; low = c .0; gap = le-refl (r .first .from); soon = zero-le; chain = chain-low n hi lo 0 (flat (r ∷ rs)) zero-le c }
+
+    pub begins-listed : (l : List Row) {p : Answer State (Unit {0})} → Begins table l p → (lo : ℕ) (κ : Stack) → Ready lo κ → Chain n hi lo (flat l) → Listed lo κ p
+    begins-listed l (fine {r} {rs} f g) lo κ y c = reads-listed g lo κ y (enter-on lo κ r rs c)
+    begins-listed l (broken f) lo κ y c = unlisted
+
+    fits : (lo : ℕ) (κ : Stack) {w : List Record} {u : State} → Listed lo κ (done w tt u) → Fits lo κ w
+    fits lo κ (listed f) = f
+
+  pub gives-fits : (p : ℕ) (s : List ℕ) (w : List Record) (u : State) → Small s → Gives table p s (done w tt u) → Fits (p + length s) (p + length s) p fresh w
+  gives-fits p s w u m g = fits (p + length s) (p + length s) p fresh (begins-listed (p + length s) (p + length s) (rowsFrom p s) g p fresh (fresh-ready p) (chain-same _ _ p (sym (flat-from p s)) (chain-plain p s m)))
+
+  pub gives-feed : (p : ℕ) (s : List ℕ) (w : List Record) (u : State) → Small s → Gives table p (s ++ lineFeed) (done w tt u) → Fits (p + length (s ++ lineFeed)) (p + length s) p fresh w
+  unfolding lineFeed
+  gives-feed p s w u m g = fits (p + length (s ++ (10 ∷ []))) (p + length s) p fresh
+      (begins-listed (p + length (s ++ (10 ∷ []))) (p + length s) (rowsFrom p (s ++ (10 ∷ []))) g p fresh (fresh-ready p) (chain-same _ _ p (sym (flat-from p (s ++ (10 ∷ [])))) (chain-feed p s m)))
+
+  pub listing-formed : (s : List ℕ) (w : List Record) → Small s → fullRead table s ≡ accepted w → wellFormed (length s) w ≡ true
+  unfolding fullRead wellFormed
+  listing-formed s w m e =
+      let (u, g) = accepts-run table 0 s w e in
+      let f : Fits (0 + length s) (0 + length s) 0 fresh w = gives-fits 0 s w u m g in
+      let i : 0 + length s ≡ length s = omega arith in
+      let c : checkedAll (length s) fresh w ≡ some (f .top) = rw i at (f .checks) in
+      rw c (f .whole)
+
+  -- The bytes of a listing that is read are decoded to its records.
+  pub listing-decodes : (s : List ℕ) (w : List Record) → Small s → length s ≤ 65536 → fullRead table s ≡ accepted w → decode (listing w) ≡ some w
+  unfolding fullRead
+  listing-decodes s w m l e =
+      let (u, g) = accepts-run table 0 s w e in
+      let f : Fits (0 + length s) (0 + length s) 0 fresh w = gives-fits 0 s w u m g in
+      decoded w (all-ranged (0 + length s) (omega arith) fresh w (f .checks) (f .extras))
