@@ -5,7 +5,6 @@ use mathlib.Core.Path.{_≡_, refl, sym, ap, _∙_}
 use mathlib.Core.List.{List, [], _∷_}
 use mathlib.Core.Bool.{Bool, true, false, _||_}
 use mathlib.Core.Option.{Option, none, some}
-use native.Mathlib.Nat.{add-zero, add-suc, suc-add, le-of-suc-le-suc, not-suc-le-zero}
 use native.Mathlib.Omega.{arith}
 use lib.Dec.{eqb, ltb}
 use lib.ListN.{length, getD, drop, take, drop-of-length-le, length-drop}
@@ -19,23 +18,13 @@ use Rattle.lexer.specs.declared.TokenRead.the-variants.{Read, Refused as refuse
 use Rattle.lexer.specs.declared.Token.the-variants.{EndOfFile}
 use Rattle.lexer.proofs.TokensText.{tokenAt-some, tokenAt-le, tokenAt-in-range}
 use Rattle.rules.specs.Lexemes.{Kind, newline, Lexeme, isGap, kindOf, lexeme, put, tokensFrom}
+use Rattle.rules.proofs.Lexemes.{tokens-skip}
 use Rattle.rules.specs.Reader.{Answer, done, refused, Reader, Line, arrive, step, next, isLineEnd, refusedAs}
 use Rattle.rules.specs.Reader.{Refusal as Cause, at as at-span}
 use Rattle.rules.specs.Statements.{Row, State, push, rows, firstOf, enter, stepRow, nextRow}
 use Rattle.parser.specs.declared.state.Parser.{Parser}
 use Rattle.parser.specs.Views.{kindBy, textOf, tokenOf, hereOf, behind, moreIn, belowIn, moreOf, belowOf, lineFrom, stateFrom, stateOf, lineOf}
 use Rattle.parser.proofs.Flat.{flat-kind, line-end-is, not-refused, refused-30, refused-31}
-
--- bytes of the token before are passed over
-pass : (p k : ℕ) (l : List ℕ) → k ≤ length l → tokensFrom p k l ≡ tokensFrom (p + k) 0 (drop k l)
-unfolding tokensFrom
-pass p zero [] h = ap (λ (n : ℕ). tokensFrom n 0 []) (sym (add-zero p))
-pass p (suc k) [] h = absurd (not-suc-le-zero h)
-pass p zero (b ∷ bs) h = ap (λ (n : ℕ). tokensFrom n 0 (b ∷ bs)) (sym (add-zero p))
-pass p (suc k) (b ∷ bs) h = shift (pass (suc p) k bs (le-of-suc-le-suc h))
-  where
-    shift : tokensFrom (suc p) k bs ≡ tokensFrom (suc p + k) 0 (drop k bs) → tokensFrom p (suc k) (b ∷ bs) ≡ tokensFrom (p + suc k) 0 (drop k bs)
-    shift e = e ∙ ap (λ (n : ℕ). tokensFrom n 0 (drop k bs)) (suc-add p k ∙ sym (add-suc p k))
 
 -- the tokens from a place on
 abbrev pub From : List ℕ → ℕ → List Lexeme
@@ -67,7 +56,7 @@ module _ (s : List ℕ) (at : ℕ) where
       let n : suc at + pred (sizeOf here) ≡ at + sizeOf here = omega arith in
       rw e
       (ap (put at (tokenAt (getD s at 0 ∷ drop (suc at) s)) (getD s at 0 ∷ drop (suc at) s))
-      (pass (suc at) _ (drop (suc at) s) (rw e at k) ∙ rw (drop-drop, rw e at n)))
+      (tokens-skip (suc at) _ (drop (suc at) s) (rw e at k) ∙ rw (drop-drop, rw e at n)))
 
   at-end : length s ≤ at → here ≡ Read (EndOfFile 0)
   unfolding tokenAt
@@ -76,3 +65,20 @@ module _ (s : List ℕ) (at : ℕ) where
   end-step : length s ≤ at → From s at ≡ record { from = at; to = at; kind = newline } ∷ []
   unfolding tokensFrom
   end-step h = rw (drop-of-length-le s h)
+
+  -- only the source's end is read as the end of file
+  pub inside : (byteOf here ≡ 0 → ⊥) → at < length s
+  inside f = go (ltb at (length s)) refl
+    where
+      go : (b : Bool) → ltb at (length s) ≡ b → at < length s
+      go true e = ltb-true _ _ e
+      go false e = absurd (f (ap byteOf (at-end (ltb-false _ _ e))))
+
+  -- whitespace and comments are passed over
+  pub gap-step : at < length s → isGap (kindOf here (drop at s)) ≡ true → From s at ≡ From s (at + sizeOf here)
+  unfolding put
+  gap-step h g = inside-step h ∙ rw g
+
+  -- any other token is the first
+  pub token-step : (e k v : ℕ) → e ≡ at + sizeOf here → k ≡ byteOf here → v ≡ valueOf here → (eqb k 32 ≡ false) → (eqb k 59 ≡ false) → From s at ≡ tokenOf s at e k v ∷ behind s k e
+  token-step e k v i j l x y = ?
