@@ -1,5 +1,6 @@
 -- A token's text: it has at least one byte, its bytes are there, none is a line feed but in the line feed's own token, and so the tokens
--- tile the source. A number is at most the largest, and a closed string has room for its two quotes.
+-- tile the source. A number begins with a digit and is at most the largest, a name takes all its characters, and a closed string has room for
+-- its two quotes.
 use mathlib.Core.Path.{_≡_, refl, sym, ap, _∙_}
 use mathlib.Core.Bool.{Bool, true, false, not, _&&_, true≢false, false≢true}
 use mathlib.Core.List.{List, [], _∷_, _++_, flatten}
@@ -44,10 +45,24 @@ InRange (Read (EndOfFile n)) = Unit {0}
 InRange (Read (Invalid n c)) = Unit {0}
 InRange (Refused n f) = Unit {0}
 
+-- a number begins with a digit, and a name takes all its characters
+abbrev pub Begun : List ℕ → TokenRead → Type 0
+Begun s (Read (Literal n (Number z))) = isDigit (getD s 0 0) ≡ true
+Begun s (Read (Literal n (Text b))) = Unit {0}
+Begun s (Read (Whitespace n)) = Unit {0}
+Begun s (Read (Identifier n)) = n ≡ suc (run isWordPart (drop 1 s))
+Begun s (Read (Punctuation n k)) = Unit {0}
+Begun s (Read (Comment n)) = Unit {0}
+Begun s (Read (NewLine n)) = Unit {0}
+Begun s (Read (EndOfFile n)) = Unit {0}
+Begun s (Read (Invalid n c)) = Unit {0}
+Begun s (Refused n f) = Unit {0}
+
 record Fine (s : List ℕ) (t : TokenRead) : Type 0 where
   some-byte : 1 ≤ sizeOf t
   clean : Clean (sizeOf t) s
   in-range : InRange t
+  begun : Begun s t
 
 -- a test that no line feed passes
 other : (p : ℕ → Bool) → p 10 ≡ false → (c : ℕ) → p c ≡ true → is "\n" c ≡ false
@@ -76,8 +91,8 @@ one-run : (p : ℕ → Bool) (c : ℕ) (cs : List ℕ) → p c ≡ true → 1 �
 unfolding run
 one-run p c cs e = rw (e, run) (omega arith)
 
-fine : {s : List ℕ} (t : TokenRead) → 1 ≤ sizeOf t → Clean (sizeOf t) s → InRange t → Fine s t
-fine t i l h = record { some-byte = i; clean = l; in-range = h }
+fine : {s : List ℕ} (t : TokenRead) → 1 ≤ sizeOf t → Clean (sizeOf t) s → InRange t → Begun s t → Fine s t
+fine t i l h b = record { some-byte = i; clean = l; in-range = h; begun = b }
 
 within-largest : (v : ℕ) → leb v largest ≡ true → v ≤ 2147483647
 unfolding largest
@@ -85,24 +100,25 @@ within-largest v h = leb-true v 2147483647 h
 
 -- a number of n bytes of s
 module _ {s : List ℕ} (n : ℕ) (i : 1 ≤ n) (l : Clean n s) where
-  numeral-fine : (v : ℕ) → leb v largest ≡ true → Fine s (numeral n v)
+  numeral-fine : isDigit (getD s 0 0) ≡ true → (v : ℕ) → leb v largest ≡ true → Fine s (numeral n v)
   unfolding numeral
-  numeral-fine v e = fine (numeral n v) i l (v, refl, within-largest v e)
+  numeral-fine h v e = fine (numeral n v) i l (v, refl, within-largest v e) h
 
   refused-fine : (f : Fault) → Fine s (Refused n f)
-  refused-fine f = fine (Refused n f) i l tt
+  refused-fine f = fine (Refused n f) i l tt tt
 
 module _ (c : ℕ) (cs : List ℕ) (other-byte : is "\n" c ≡ false) where
   stray-fine : (d : ℕ) → Fine (c ∷ cs) (stray d)
   unfolding stray
-  stray-fine d = fine (stray d) (le-refl 1) (other-byte, tt) tt
+  stray-fine d = fine (stray d) (le-refl 1) (other-byte, tt) tt tt
 
+module _ (c : ℕ) (cs : List ℕ) (other-byte : is "\n" c ≡ false) (digit-byte : isDigit c ≡ true) where
   digits-fine : (d base : ℕ) (ds : List ℕ) (n : ℕ) → 1 ≤ n → Clean n (c ∷ cs) → Fine (c ∷ cs) (digits d base ds n)
   unfolding digits
   digits-fine d base ds n i l =
       let fits : Bool = all (λ e. ltb (digit e) base) ds in
       let small : Bool = leb (valueFrom 0 base ds) largest in
-      given (Fine (c ∷ cs)) (fits && small) _ _ (λ e. numeral-fine n i l (valueFrom 0 base ds) (and-split fits small e .1)) (λ e. stray-fine d)
+      given (Fine (c ∷ cs)) (fits && small) _ _ (λ e. numeral-fine n i l digit-byte (valueFrom 0 base ds) (and-split fits small e .1)) (λ e. stray-fine c cs other-byte d)
 
   inBase-fine : (d n : ℕ) (ds cut : List ℕ) (after : ℕ) → 1 ≤ n → Clean n (c ∷ cs) → (anyOf "oO" after ≡ true → Clean (suc n) (c ∷ cs)) → (anyOf "hH" after ≡ true → Clean (suc n) (c ∷ cs))
       → Fine (c ∷ cs) (inBase d n ds cut after)
@@ -121,8 +137,8 @@ module _ (c : ℕ) (cs : List ℕ) (other-byte : is "\n" c ≡ false) where
       let v : ℕ = valueFrom 0 base (take n ds) in
       let two : 2 + n ≡ suc (suc n) = omega arith in
       let l : Clean (2 + n) (c ∷ cs) = rw (e, two) (other-byte, (o, run-clean p h ds)) in
-      either (Fine (c ∷ cs)) (eqb n 0) _ _ (numeral-fine 1 (le-refl 1) (other-byte, tt) 0 refl)
-      (given (Fine (c ∷ cs)) (leb v largest) _ _ (λ i. numeral-fine (2 + n) (omega arith) l v i) (λ _. refused-fine (2 + n) (omega arith) l TooLarge))
+      either (Fine (c ∷ cs)) (eqb n 0) _ _ (numeral-fine 1 (le-refl 1) (other-byte, tt) digit-byte 0 refl)
+      (given (Fine (c ∷ cs)) (leb v largest) _ _ (λ i. numeral-fine (2 + n) (omega arith) l digit-byte v i) (λ _. refused-fine (2 + n) (omega arith) l TooLarge))
 
   suffixed-fine : isHexDigit c ≡ true → Fine (c ∷ cs) (suffixed c cs)
   unfolding suffixed openText
@@ -137,16 +153,16 @@ digit-hex c h = rw h
 
 numberAt-fine : (c : ℕ) (cs : List ℕ) → isDigit c ≡ true → is "\n" c ≡ false → Fine (c ∷ cs) (numberAt c cs)
 unfolding numberAt openText
-numberAt-fine c [] h o = suffixed-fine c [] o (digit-hex c h)
+numberAt-fine c [] h o = suffixed-fine c [] o h (digit-hex c h)
 numberAt-fine c (d ∷ ds) h o =
     let P : TokenRead → Type 0 = Fine (c ∷ d ∷ ds) in
-    let plain : P (suffixed c (d ∷ ds)) = suffixed-fine c (d ∷ ds) o (digit-hex c h) in
+    let plain : P (suffixed c (d ∷ ds)) = suffixed-fine c (d ∷ ds) o h (digit-hex c h) in
     let letter : (a : Char) → is a 10 ≡ false → is a d ≡ true → is "\n" d ≡ false = λ a i e. other (is a) i d e in
     either P (not (is "0" c)) _ _ plain
-    (given P (is "b" d) _ _ (λ e. prefixed-fine c (d ∷ ds) o 2 (within "0" "1") refl d ds refl (letter "b" refl e))
-    (λ _. given P (is "o" d) _ _ (λ e. prefixed-fine c (d ∷ ds) o 8 (within "0" "7") refl d ds refl (letter "o" refl e))
-    (λ _. given P (is "d" d) _ _ (λ e. prefixed-fine c (d ∷ ds) o 10 isDigit refl d ds refl (letter "d" refl e))
-    (λ _. given P (is "x" d) _ _ (λ e. prefixed-fine c (d ∷ ds) o 16 isHexDigit refl d ds refl (letter "x" refl e)) (λ _. plain)))))
+    (given P (is "b" d) _ _ (λ e. prefixed-fine c (d ∷ ds) o h 2 (within "0" "1") refl d ds refl (letter "b" refl e))
+    (λ _. given P (is "o" d) _ _ (λ e. prefixed-fine c (d ∷ ds) o h 8 (within "0" "7") refl d ds refl (letter "o" refl e))
+    (λ _. given P (is "d" d) _ _ (λ e. prefixed-fine c (d ∷ ds) o h 10 isDigit refl d ds refl (letter "d" refl e))
+    (λ _. given P (is "x" d) _ _ (λ e. prefixed-fine c (d ∷ ds) o h 16 isHexDigit refl d ds refl (letter "x" refl e)) (λ _. plain)))))
 
 string-fine : (c : ℕ) (cs : List ℕ) → is "\n" c ≡ false → Fine (c ∷ cs) (stringAfter cs)
 unfolding stringAfter openText inQuotes
@@ -156,13 +172,13 @@ string-fine c cs o =
     let one : n + 1 ≡ suc n = omega arith in
     let two : n + 2 ≡ suc (suc n) = omega arith in
     given (Fine (c ∷ cs)) (is "'" (getD cs n 0)) _ _
-    (λ e. fine _ (omega arith) (rw two (o, more-clean (is "'") refl refl n cs l e)) (omega arith)) (λ _. fine _ (omega arith) (rw one (o, l)) tt)
+    (λ e. fine _ (omega arith) (rw two (o, more-clean (is "'") refl refl n cs l e)) (omega arith) tt) (λ _. fine _ (omega arith) (rw one (o, l)) tt tt)
 
 markAt-fine : (c : ℕ) (cs : List ℕ) → is "\n" c ≡ false → Fine (c ∷ cs) (markAt c)
 unfolding markAt mark
 markAt-fine c cs o =
     let P : TokenRead → Type 0 = Fine (c ∷ cs) in
-    let one : (k : PunctuationKind) → P (mark k) = λ k. fine (mark k) (le-refl 1) (o, tt) tt in
+    let one : (k : PunctuationKind) → P (mark k) = λ k. fine (mark k) (le-refl 1) (o, tt) tt tt in
     either P (is ":" c) _ _ (one _) (either P (is "," c) _ _ (one _) (either P (is "$" c) _ _ (one _) (either P (is "." c) _ _ (one _)
     (either P (is "[" c) _ _ (one _) (either P (is "]" c) _ _ (one _) (either P (is "(" c) _ _ (one _) (either P (is ")" c) _ _ (one _)
     (either P (is "+" c) _ _ (one _) (either P (is "-" c) _ _ (one _) (either P (is "*" c) _ _ (one _) (either P (is "/" c) _ _ (one _) (stray-fine c cs o c))))))))))))
@@ -172,10 +188,10 @@ tokenAt-fine : (c : ℕ) (cs : List ℕ) → is "\n" c ≡ false → Fine (c ∷
 unfolding tokenAt openText inComment
 tokenAt-fine c cs o =
     let P : TokenRead → Type 0 = Fine (c ∷ cs) in
-    either P (is ";" c) _ _ (fine _ (omega arith) (o, run-clean inComment refl cs) tt)
-    (either P (isBlank c) _ _ (fine _ (omega arith) (o, run-clean isBlank refl cs) tt)
+    either P (is ";" c) _ _ (fine _ (omega arith) (o, run-clean inComment refl cs) tt tt)
+    (either P (isBlank c) _ _ (fine _ (omega arith) (o, run-clean isBlank refl cs) tt tt)
     (given P (isDigit c) _ _ (λ e. numberAt-fine c cs e o)
-    (λ _. either P (isLetter c) _ _ (fine _ (omega arith) (o, run-clean isWordPart refl cs) tt)
+    (λ _. either P (isLetter c) _ _ (fine _ (omega arith) (o, run-clean isWordPart refl cs) tt refl)
     (either P (is "'" c) _ _ (string-fine c cs o)
     (given P (is "\n" c) _ _ (λ e. absurd (true≢false (sym e ∙ o))) (λ _. markAt-fine c cs o))))))
 
@@ -243,6 +259,9 @@ pub tokenAt-in-range : (s : List ℕ) → InRange (tokenAt s)
 unfolding tokenAt
 tokenAt-in-range [] = tt
 tokenAt-in-range (c ∷ cs) = by-first (λ (s : List ℕ) (t : TokenRead). InRange t) (λ cs. tt) (λ c cs f. f .in-range) c cs
+
+pub tokenAt-begun : (c : ℕ) (cs : List ℕ) → Begun (c ∷ cs) (tokenAt (c ∷ cs))
+tokenAt-begun = by-first (λ (s : List ℕ) (t : TokenRead). Begun s t) (λ cs. tt) (λ c cs f. f .begun)
 
 -- Tokens tile the source. The texts of the tokens of s, of which the first k bytes belong to a token that is already read:
 unfoldable pub textsFrom : ℕ → List ℕ → List (List ℕ)

@@ -11,6 +11,7 @@ use lib.Dec.{eqb, leb, ltb}
 use lib.ListN.{length, length-append, length-map}
 use borrow.Author.Tests.{leb-true}
 use Rattle.lexer.specs.Text.{if_then_else_, maybe, bytes, lower, same, openText}
+use Rattle.lexer.proofs.Branches.{and-split}
 use Rattle.rules.specs.Lexemes.{Kind, word, number, quoted, mark, newline, blank, comment, invalid, end, bad, Lexeme, textOf, nameIn, operationIn}
 use Rattle.names.specs.Names.{directives, named, operationNamed, placeFrom}
 use Rattle.rules.specs.Records.{Record, ST, LL, LI, LD, LC, LT, field, fields, encode, listing}
@@ -19,7 +20,7 @@ use Rattle.rules.specs.Expressions.{expression}
 use Rattle.rules.specs.Operands.{isWord, isNumber, Operands, operands}
 use Rattle.rules.specs.Statements.{Row, State, over, inLine, firstOf, enter, stepRow, nextRow, lineEnd, skip, skipLines, passing, label, rep, repne, instruction, constant, literals, someData, dataOf, line, content, times, begun, statement}
 use Rattle.rules.proofs.Progress.{name-inside, word-inside}
-use Rattle.rules.proofs.Table.{Proper, and-both, same-length}
+use Rattle.rules.proofs.Table.{Proper, same-length}
 use Rattle.rules.proofs.Shape.{asked, Holds, Sound, Chain, chain-low}
 use Rattle.rules.proofs.ShapeState.{flat, chain-drop}
 use Rattle.rules.proofs.Cost.{weight, Post, holds, fails, Triple, after-post, plain-post, thence-post, bind, andThen, whether, perhaps, returns, refuses, before, behind, now, arrive-post, Spaced, On, Here, Wide, on-less, nexts, wide-nexts, expression-on, operands-on, label-on, literals-on}
@@ -39,7 +40,7 @@ place-long : (m : ℕ) (w : List ℕ) (t : List String) (r : ℕ) → allLong t 
 unfolding placeFrom allLong
 place-long m w [] r l h = let z : _≡_ {A = ℕ} 0 1 = cc in absurd (omega arith)
 place-long m w (name ∷ t) r l h =
-    let (a, b) = and-both (leb 2 (length (bytes name))) (allLong t) l in
+    let (a, b) = and-split (leb 2 (length (bytes name))) (allLong t) l in
     go a (same w (bytes name)) refl h (λ e. place-long (suc m) w t r b e)
   where
     go : leb 2 (length (bytes name)) ≡ true → (o : Bool) → same w (bytes name) ≡ o → _≡_ {A = Option ℕ} (if o then (some m) else (placeFrom (suc m) w t)) (some r)

@@ -17,6 +17,7 @@ use Rattle.rules.specs.Reader.{Refusal, at, nowhere, encoding, Answer, d
 use Rattle.rules.specs.Statements.{Row, State, over, inLine, firstOf, enter, rows, push, skip, skipLines, line, content, times, begun, statement, statements, readRows, Outcome, accepted, refusal, outcome, readFrom}
 use Rattle.rules.proofs.Move.{same, carry, after-carry, Mild, bad-mild, moveToken, moveRefusal, moveLine}
 use Rattle.rules.proofs.MoveState.{moveRow, moveState, statement-shifts, unit-state, unit-row}
+use Rattle.lexer.proofs.Branches.{and-split}
 use Rattle.lexer.proofs.TokensLine.{Lines}
 use Rattle.rules.proofs.Lexemes.{tokensWithin, tokens-append, tokens-shift, lines-ended, put-ended, erase, endToken, tokens-end, Ended as Finished}
 use Rattle.rules.proofs.Rows.{Some, rows-some, rows-append, rows-move}
@@ -258,10 +259,6 @@ pub blank-end : (p : ℕ) (s : List ℕ) → blankRows (rowsFrom p (s ++ lineFee
 blank-end p s = sym (blank-moved (λ _. 0) (rowsFrom p (s ++ lineFeed))) ∙ ap blankRows (rows-end p s) ∙ blank-append (zeros (rowsFrom p s)) (endRow 0 ∷ [])
     ∙ ap (λ (b : Bool). blankRows (zeros (rowsFrom p s)) && b) (blank-last 0) ∙ and-true (blankRows (zeros (rowsFrom p s))) ∙ blank-moved (λ _. 0) (rowsFrom p s)
     ∙ ap blankRows (rows-shift p s) ∙ blank-moved (λ n. p + n) (rowsFrom 0 s)
-
-pub and-split : (b c : Bool) → b && c ≡ true → (b ≡ true) × (c ≡ true)
-and-split true c h = (refl, h)
-and-split false c h = absurd (false≢true h)
 
 skip-step : (l : Line) (r : Row) (rs : List Row) → isLineEnd (l .here .kind) ≡ true → skip l (r ∷ rs) ≡ arrive (r .first) (skip (firstOf r) rs)
 unfolding skip

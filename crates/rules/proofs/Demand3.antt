@@ -15,13 +15,14 @@ use Rattle.lexer.specs.Tokens.{inComment}
 use Rattle.rules.specs.Records.{Record, ST, VC, VL, VI, VS, PF, IN, OR, OS, OI, OF, OD, OX, LL, LI, LD, LC, LT, moveRecord, listing}
 use Rattle.rules.specs.Reader.{Refusal, at, nowhere, encoding, Answer, done, refused, after}
 use Rattle.rules.specs.Statements.{Row, State, rows, readRows, Outcome, accepted, refusal, outcome, readFrom, fullRead}
+use Rattle.lexer.proofs.Branches.{and-split}
 use Rattle.lexer.proofs.TokensLine.{Lines}
 use Rattle.rules.specs.Calls.{Result, gives, refuses, unless, mostBytes, tooLong, foreign, ascii, lent, inRoom, listed, fullCall}
 use Rattle.rules.specs.Decode.{decode}
 use Rattle.rules.specs.WellFormed.{wellFormed}
 use Rattle.rules.specs.Patch.{beginsLine, above, lineAt, behind, edited, linesFrom, nearest, lacksContent, isOpen, leavesOpen, openLine, statementFrom, recordsBelow, recordsOn, Edit, exchanged, placedIn, reread, patched, patch}
 use Rattle.rules.proofs.Shape.{Small}
-use Rattle.rules.proofs.Table.{Proper, and-both}
+use Rattle.rules.proofs.Table.{Proper}
 use Rattle.rules.proofs.Cut.{IsOpen, Gives, lineFeed, from-run, accepts-run, refuses-run, gives as given}
 use Rattle.rules.proofs.Listing.{Inner, Headed, inner-append, from-mono, gives-fits, gives-feed, listing-formed, listing-decodes}
 use Rattle.rules.proofs.Exchange.{whole, Near, near-open, Behind, nothing, feed, Exchange, Closed, exchange, gives-same}
@@ -115,7 +116,7 @@ unfolding beginsLine
 line-at s zero h = record { fits = zero-le; lines = tt }
 line-at s (suc n) h =
     let e : eqb (suc n) 0 ≡ false = ne-eqb (suc n) 0 (λ (i : suc n ≡ 0). omega arith) in
-    let (i, j) = and-both (leb (suc n) (length s)) (is "\n" (getD s n 0)) (rw e at h) in
+    let (i, j) = and-split (leb (suc n) (length s)) (is "\n" (getD s n 0)) (rw e at h) in
     record { fits = leb-true (suc n) (length s) i; lines = lines-take n s (feed-byte (getD s n 0) j) }
 
 feed-is : is "\n" 10 ≡ true

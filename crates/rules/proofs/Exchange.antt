@@ -14,9 +14,10 @@ use Rattle.rules.specs.Reader.{Refusal, at, nowhere, encoding, Answer, d
 use Rattle.rules.specs.Statements.{Row, State, enter, rows, push, readRows}
 use Rattle.rules.proofs.Move.{Mild, carry, moveRefusal}
 use Rattle.rules.proofs.MoveState.{moveState}
+use Rattle.lexer.proofs.Branches.{and-split}
 use Rattle.lexer.proofs.TokensLine.{Lines, lines-end}
 use Rattle.rules.proofs.Append.{Begins}
-use Rattle.rules.proofs.Cut.{IsOpen, Lack, mild-or-lack, not-both, open-after, blankRows, rowsFrom, Gives, gives, begins-only, some-row, Then, goes, stands, lacks, sequel, moved, gives-shift, open-moved, moved-open, lineFeed, alone-open, blank-end, blank-gives, blank-split, and-split, nothing-gives, endRow}
+use Rattle.rules.proofs.Cut.{IsOpen, Lack, mild-or-lack, not-both, open-after, blankRows, rowsFrom, Gives, gives, begins-only, some-row, Then, goes, stands, lacks, sequel, moved, gives-shift, open-moved, moved-open, lineFeed, alone-open, blank-end, blank-gives, blank-split, nothing-gives, endRow}
 use Rattle.rules.specs.Patch.{allEnds, bareLine, nearest}
 
 zero-one : _≡_ {A = ℕ} 0 1 → ⊥

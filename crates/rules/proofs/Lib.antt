@@ -22,4 +22,5 @@ pub mod Cut
 pub mod Exchange
 pub mod Listing
 pub mod Demand3
+pub mod Bound
 pub mod KnownPatch

@@ -17,13 +17,14 @@ use Rattle.rules.specs.Statements.{Row, State, firstOf, enter, accepted,
 use Rattle.rules.specs.Decode.{decode}
 use Rattle.rules.specs.WellFormed.{Stack, allow, complete, spans, given, checked, checkedAll, fresh, wellFormed, toExpression, toOperand, toLine, stack}
 use Rattle.rules.specs.Patch.{statementFrom}
-use Rattle.rules.proofs.Table.{Proper, and-both}
+use Rattle.rules.proofs.Table.{Proper}
 use Rattle.rules.proofs.Append.{Reads, Begins, fine, broken}
 use Rattle.rules.proofs.Shape.{Extra, Small, Chain, chain-low, Run, nil, cons, On}
 use Rattle.rules.proofs.ShapeState.{flat, OnS, Ready, Stated, began, ended, failed, statement-stated}
 use Rattle.rules.proofs.LexSound.{chain-plain, chain-feed, flat-rows}
 use Rattle.rules.proofs.Cut.{rowsFrom, Gives, lineFeed, accepts-run}
-use Rattle.rules.proofs.Decoded.{Low, Ranged, AllRanged, decoded}
+use Rattle.rules.proofs.Decoded.{decoded}
+use Rattle.rules.proofs.Ranged.{Extras, all-ranged}
 
 -- No statement of these records is from hi on; the first of these is one from lo on.
 abbrev pub Inner : ℕ → List Record → Type 0
@@ -68,10 +69,6 @@ module _ (a b : ℕ) (h : a ≤ b) where
   from-mono LT e = refl
 
 
-abbrev pub Extras : List Record → Type 0
-Extras [] = Unit {0}
-Extras (r ∷ rs) = Extra r × Extras rs
-
 extras-append : (w v : List Record) → Extras w → Extras v → Extras (w ++ v)
 extras-append [] v h i = i
 extras-append (r ∷ rs) v h i = (h .0, extras-append rs v (h .1) i)
@@ -86,86 +83,6 @@ flat-from p s = flat-rows (tokensFrom p 0 s)
 
 chain-same : (n hi lo : ℕ) {xs ys : List Lexeme} → xs ≡ ys → Chain n hi lo xs → Chain n hi lo ys
 chain-same n hi lo e c = rw e at c
-
--- A checked record's fields fit.
-given-true : (b : Bool) (o : Option Stack) {k : Stack} → given b o ≡ some k → b ≡ true
-unfolding given
-given-true true o h = refl
-given-true false o h = let z : _≡_ {A = ℕ} 0 1 = cc in absurd (omega arith)
-
-allow-true : (b : Bool) (x : Stack) {k : Stack} → allow b x ≡ some k → b ≡ true
-unfolding allow
-allow-true true o h = refl
-allow-true false o h = let z : _≡_ {A = ℕ} 0 1 = cc in absurd (omega arith)
-
-module _ (n : ℕ) (short : n ≤ 65536) where
-  spans-low : (k : Stack) (f t : ℕ) → spans n k f t ≡ true → Low f × Low t
-  unfolding spans
-  spans-low k f t h =
-      let (a, b) = and-both (leb (k .place) f && leb f t) (leb t n) h in
-      let (c, d) = and-both (leb (k .place) f) (leb f t) a in
-      (omega (arith, leb-true t n b, leb-true f t d), omega (arith, leb-true t n b))
-
-  spans-end : (k : Stack) (f t : ℕ) → spans n k f t ≡ true → t ≤ n
-  unfolding spans
-  spans-end k f t h = let (a, b) = and-both (leb (k .place) f && leb f t) (leb t n) h in leb-true t n b
-
-  module _ (k k′ : Stack) where
-    ranged : (r : Record) → checked n k r ≡ some k′ → Extra r → Ranged r
-    unfolding checked
-    ranged (ST p) e x =
-        let (a, b) = and-both (complete k && leb (k .floor) p) (leb p n) (allow-true _ _ e) in
-        omega (arith, leb-true p n b)
-    ranged (VC f t v) e x = let (a, b) = spans-low k f t (given-true (spans n k f t) _ e) in (a, b, omega arith)
-    ranged (VL f t) e x = spans-low k f t (given-true (spans n k f t) _ e)
-    ranged (VI f t) e x = spans-low k f t (given-true (spans n k f t) _ e)
-    ranged (VS f t) e x = spans-low k f t (given-true (spans n k f t) _ e)
-    ranged (PF f t o) e x =
-        let (s, i) = and-both (spans n k f t) (ltb o 2) (given-true _ _ e) in
-        let (a, b) = spans-low k f t s in (a, b, omega (arith, ltb-true o 2 i))
-    ranged (IN f t o) e x =
-        let (s, i) = and-both (spans n k f t) (ltb o 4) (given-true _ _ e) in
-        let (a, b) = spans-low k f t s in (a, b, omega (arith, ltb-true o 4 i))
-    ranged (OR f t r) e x =
-        let (s, i) = and-both (spans n k f t) (ltb r 16) (given-true _ _ e) in
-        let (a, b) = spans-low k f t s in (a, b, omega (arith, ltb-true r 16 i))
-    ranged (OS f t g) e x =
-        let (s, i) = and-both (spans n k f t) (ltb g 4) (given-true _ _ e) in
-        let (a, b) = spans-low k f t s in (a, b, omega (arith, ltb-true g 4 i))
-    ranged (OI f t) e x = spans-low k f t (given-true (spans n k f t) _ e)
-    ranged (OF f t) e x = spans-low k f t (given-true (spans n k f t) _ e)
-    ranged (OD f t z g) e x =
-        let (s, i) = and-both (spans n k f t && leb z 2) (leb g 4) (given-true _ _ e) in
-        let (s′, j) = and-both (spans n k f t) (leb z 2) s in
-        let (a, b) = spans-low k f t s′ in (a, b, omega (arith, leb-true z 2 j), omega (arith, leb-true g 4 i))
-    ranged (OX f t c d z g) e x =
-        let (s, i) = and-both (spans n k f t && ltb c 8 && leb d 1 && leb z 2) (leb g 4) (given-true _ _ e) in
-        let (s₁, i₁) = and-both (spans n k f t && ltb c 8 && leb d 1) (leb z 2) s in
-        let (s₂, i₂) = and-both (spans n k f t && ltb c 8) (leb d 1) s₁ in
-        let (s₃, i₃) = and-both (spans n k f t) (ltb c 8) s₂ in
-        let (a, b) = spans-low k f t s₃ in (a, b, omega (arith, ltb-true c 8 i₃), omega (arith, leb-true d 1 i₂), omega (arith, leb-true z 2 i₁), omega (arith, leb-true g 4 i))
-    ranged (LL f t) e x = spans-low k f t (given-true (spans n k f t) _ e)
-    ranged (LI f t o m f′ t′) e x =
-        let (s, i) = and-both (spans n k f t && ltb o 99 && leb m 2) (spans n k f′ t′) (given-true _ _ e) in
-        let (s₁, i₁) = and-both (spans n k f t && ltb o 99) (leb m 2) s in
-        let (s₂, i₂) = and-both (spans n k f t) (ltb o 99) s₁ in
-        let (a, b) = spans-low k f t s₂ in
-        let (a′, b′) = spans-low k f′ t′ i in (a, b, omega (arith, ltb-true o 99 i₂), omega (arith, leb-true m 2 i₁), a′, b′)
-    ranged (LD f t d) e x =
-        let (s, i) = and-both (spans n k f t) (ltb 0 (length d)) (given-true _ _ e) in
-        let (a, b) = spans-low k f t s in
-        let l : t ≤ n = spans-end k f t s in (a, b, omega arith)
-    ranged (LC f t) e x = spans-low k f t (given-true (spans n k f t) _ e)
-    ranged LT e x = tt
-
-  pub all-ranged : (k : Stack) (w : List Record) {top : Stack} → checkedAll n k w ≡ some top → Extras w → AllRanged w
-  unfolding checkedAll
-  all-ranged k [] h x = tt
-  all-ranged k (r ∷ rs) {top} h x = go (checked n k r) refl h (λ k′ e. all-ranged k′ rs e (x .1))
-    where
-      go : (o : Option Stack) → checked n k r ≡ o → maybe o none (λ k′. checkedAll n k′ rs) ≡ some top → ((k′ : Stack) → checkedAll n k′ rs ≡ some top → AllRanged rs) → Ranged r × AllRanged rs
-      go none e i again = let z : _≡_ {A = ℕ} 0 1 = cc in absurd (omega arith)
-      go (some k′) e i again = (ranged k k′ r e (x .0), again k′ i)
 
 module _ (table : List ℕ) (proper : Proper table) where
   module _ (n hi : ℕ) where

@@ -219,16 +219,16 @@ module _ (f : ℕ → ℕ) (P : Line → Type 0) (closed : (s : Line) → P s �
   unfolding character moveToken moveRecord
   character-shifts false s x = here-shifts same 16 refl
   character-shifts true [] x = here-shifts same 17 refl
-  character-shifts true (c ∷ []) x = andThen next-shifts (writes (VC (x .from) (x .to) c))
+  character-shifts true (c ∷ []) x = andThen next-shifts (writes _)
   character-shifts true (c ∷ d ∷ s) x = here-shifts same 17 refl
 
   atomOf-shifts : (k : Kind) (x : Lexeme) → Shifts f P same (atomOf k x) (atomOf k ((moveToken f) x))
   unfolding atomOf moveToken moveRecord
-  atomOf-shifts (number v) x = andThen next-shifts (writes (VC (x .from) (x .to) v))
+  atomOf-shifts (number v) x = andThen next-shifts (writes _)
   atomOf-shifts (quoted closed s) x = character-shifts closed s x
-  atomOf-shifts (word w) x = andThen next-shifts (writes (VL (x .from) (x .to)))
+  atomOf-shifts (word w) x = andThen next-shifts (writes _)
   atomOf-shifts (mark c) x = whether (is "$" c) (andThen next-shifts (bind _ kind-shifts λ k.
-      whether (isMark "$" k) (andThen next-shifts (writes (VS (x .from) (x .to)))) (writes (VI (x .from) (x .to))))) (here-shifts same 21 refl)
+      whether (isMark "$" k) (andThen next-shifts (writes _)) (writes _))) (here-shifts same 21 refl)
   atomOf-shifts newline x = here-shifts same 21 refl
   atomOf-shifts blank x = here-shifts same 21 refl
   atomOf-shifts comment x = here-shifts same 21 refl
@@ -246,15 +246,15 @@ module _ (f : ℕ → ℕ) (P : Line → Type 0) (closed : (s : Line) → P s �
     primary-shifts = bind _ ahead-shifts λ x.
       whether (isMark "(" (x .kind)) (andThen (andThen next-shifts (each 0)) (expect-shifts ")" 14 refl))
       (perhaps (operatorOf (x .kind)) atom-shifts λ op. andThen next-shifts (andThen
-        (whether (ltb op 2) (each prefixLevel) (refuses same (nowhere 22) tt))
-        (bind _ passed-shifts λ t. writes (PF (x .from) t op))))
+        (whether (ltb op 2) (each prefixLevel) (refuses same _ tt))
+        (bind _ passed-shifts λ t. writes _)))
 
     infixes-shifts : (n level p : ℕ) → Shifts f P same (infixes n inner level p) (infixes n inner level (f p))
     unfolding infixes moveRecord
     infixes-shifts zero level p = returns same tt
     infixes-shifts (suc n) level p = bind _ kind-shifts λ k. perhaps (operatorOf k) (returns same tt) λ op.
       whether (ltb (leftLevel op) level) (returns same tt) (andThen next-shifts (andThen (each (rightLevel op))
-        (bind _ passed-shifts λ t. andThen (writes (IN p t op)) (infixes-shifts n level p))))
+        (bind _ passed-shifts λ t. andThen (writes _) (infixes-shifts n level p))))
 
   expr-shifts : (d level : ℕ) → Shifts f P same (expr d level) (expr d level)
   unfolding expr moveToken
@@ -270,15 +270,15 @@ module _ (f : ℕ → ℕ) (P : Line → Type 0) (closed : (s : Line) → P s �
   immediateOrFar-shifts : Shifts f P same immediateOrFar immediateOrFar
   unfolding immediateOrFar moveToken moveRecord
   immediateOrFar-shifts = bind _ ahead-shifts λ x. andThen expression-shifts (bind _ kind-shifts λ k. whether (isMark ":" k)
-      (andThen next-shifts (andThen expression-shifts (bind _ passed-shifts λ t. writes (OF (x .from) t))))
-      (bind _ passed-shifts λ t. writes (OI (x .from) t)))
+      (andThen next-shifts (andThen expression-shifts (bind _ passed-shifts λ t. writes _)))
+      (bind _ passed-shifts λ t. writes _))
 
   plusIndex-shifts : (p r : ℕ) → Shifts f P (Option-map same) (plusIndex p r) (plusIndex (f p) r)
   unfolding plusIndex moveToken moveRefusal
   plusIndex-shifts p r = andThen next-shifts (bind _ ahead-shifts λ x. perhaps (nameIn registers (x .kind)) (returns (Option-map same) none) λ q.
       whether (isIndex q)
-        (andThen next-shifts (bind _ passed-shifts λ t. whether (isIndex r) (refuses (Option-map same) (at 33 p t) refl) (returns (Option-map same) (some (paired r q)))))
-        (refuses (Option-map same) (encoding p (x .to) r q) tt))
+        (andThen next-shifts (bind _ passed-shifts λ t. whether (isIndex r) (refuses (Option-map same) _ refl) (returns (Option-map same) (some (paired r q)))))
+        (refuses (Option-map same) _ tt))
 
   second-shifts : (p r : ℕ) → Shifts f P same (second p r) (second (f p) r)
   unfolding second
@@ -288,7 +288,7 @@ module _ (f : ℕ → ℕ) (P : Line → Type 0) (closed : (s : Line) → P s �
   unfolding registersAhead moveToken moveRefusal
   registersAhead-shifts = bind _ ahead-shifts λ x. bind _ passed-shifts λ t. perhaps (nameIn registers (x .kind)) (returns same none) λ r.
       whether (isBase r || isIndex r) (andThen next-shifts (bind _ (second-shifts (x .from) r) λ e. returns same (some e)))
-        (refuses same (encoding (x .from) t r 255) tt)
+        (refuses same _ tt)
 
   displacement-shifts : Shifts f P same displacement displacement
   unfolding displacement
@@ -297,8 +297,8 @@ module _ (f : ℕ → ℕ) (P : Line → Type 0) (closed : (s : Line) → P s �
   close-shifts : (p size segment : ℕ) (e : Option ℕ) (has : ℕ) → Shifts f P same (close p size segment e has) (close (f p) size segment e has)
   unfolding close moveRecord moveRefusal
   close-shifts p size segment e has = andThen (expect-shifts "]" 13 refl) (bind _ passed-shifts λ t. perhaps e
-      (whether (eqb has 0) (refuses same (at 32 p t) refl) (writes (OD p t size segment)))
-      λ n. writes (OX p t n has size segment))
+      (whether (eqb has 0) (refuses same _ refl) (writes _))
+      λ n. writes _)
 
   override-shifts : Shifts f P same override override
   unfolding override
@@ -316,8 +316,8 @@ module _ (f : ℕ → ℕ) (P : Line → Type 0) (closed : (s : Line) → P s �
   operandSized-shifts (suc n) size = bind _ ahead-shifts λ x. whether (isMark "[" (x .kind)) (memory-shifts size)
       (perhaps (nameIn registers (x .kind)) (perhaps (nameIn segments (x .kind)) (perhaps (nameIn sizes (x .kind)) immediateOrFar-shifts
         (λ z. andThen next-shifts (operandSized-shifts n (suc z))))
-        (λ s. andThen next-shifts (writes (OS (x .from) (x .to) s))))
-        (λ r. andThen next-shifts (writes (OR (x .from) (x .to) r))))
+        (λ s. andThen next-shifts (writes _)))
+        (λ r. andThen next-shifts (writes _)))
 
   operand-shifts : Shifts f P same operand operand
   unfolding operand

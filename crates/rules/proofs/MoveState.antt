@@ -57,7 +57,7 @@ unit-row l r rs h = tt
 module _ (f : ℕ → ℕ) (P : Line → Type 0) (closed : (s : Line) → P s → Stays P Mild (next s)) where
   pub label-shifts : (x : Lexeme) → Shifts f P same (label x) (label (moveToken f x))
   unfolding label moveToken moveRecord
-  label-shifts x = bind _ (kind-shifts f P closed) λ k. andThen (whether (isMark ":" k) (next-shifts f P closed) (returns same tt)) (writes (LL (x .from) (x .to)))
+  label-shifts x = bind _ (kind-shifts f P closed) λ k. andThen (whether (isMark ":" k) (next-shifts f P closed) (returns same tt)) (writes _)
 
   literalOf-shifts : (k : Kind) (width : ℕ) {others : Reader Line (List ℕ)} → Shifts f P same others others → Shifts f P same (literalOf k width others) (literalOf k width others)
   unfolding literalOf
@@ -132,17 +132,17 @@ module _ (f : ℕ → ℕ) (P : State → Type 0)
   pub instruction-shifts : (x : Lexeme) (op : ℕ) → ShiftsState f P same (instruction x op) (instruction (moveToken f x) op)
   unfolding instruction moveToken moveRecord moveOperands
   instruction-shifts x op = whether (eqb op rep || eqb op repne)
-      (bind _ (inLines (passed-shifts f)) λ t. writes (LI (x .from) t op 0 t t))
-      (bind _ (inLines (operands-shifts f)) λ o. bind _ (inLines (passed-shifts f)) λ t. andThen lineEnd-shifts (writes (LI (x .from) t op (o .count) (o .from) (o .to))))
+      (bind _ (inLines (passed-shifts f)) λ t. writes _)
+      (bind _ (inLines (operands-shifts f)) λ o. bind _ (inLines (passed-shifts f)) λ t. andThen lineEnd-shifts (writes _))
 
   pub constant-shifts : (x : Lexeme) → ShiftsState f P same (constant x) (constant (moveToken f x))
   unfolding constant moveToken moveRecord
-  constant-shifts x = andThen (inLines (expression-shifts f)) (bind _ (inLines (passed-shifts f)) λ t. andThen lineEnd-shifts (writes (LC (x .from) t)))
+  constant-shifts x = andThen (inLines (expression-shifts f)) (bind _ (inLines (passed-shifts f)) λ t. andThen lineEnd-shifts (writes _))
 
   someData-shifts : (x : Lexeme) (ds : List ℕ) → ShiftsState f P same (someData x ds) (someData (moveToken f x) ds)
   unfolding someData moveToken moveRecord moveRefusal
-  someData-shifts x [] = refuses same (at 23 (x .from) (x .to)) tt
-  someData-shifts x (b ∷ bs) = bind _ (inLines (passed-shifts f)) λ t. andThen lineEnd-shifts (writes (LD (x .from) t (b ∷ bs)))
+  someData-shifts x [] = refuses same _ tt
+  someData-shifts x (b ∷ bs) = bind _ (inLines (passed-shifts f)) λ t. andThen lineEnd-shifts (writes _)
 
   pub dataOf-shifts : (x : Lexeme) (width : ℕ) → ShiftsState f P same (dataOf x width) (dataOf (moveToken f x) width)
   unfolding dataOf
@@ -157,7 +157,7 @@ module _ (f : ℕ → ℕ) (P : State → Type 0)
 
     pub content-shifts : {m : Reader State (Unit {0})} (x : Lexeme) → ShiftsState f P same m m → ShiftsState f P same (content table m x) (content table m (moveToken f x))
     unfolding content moveToken moveRecord moveRefusal
-    content-shifts x p = bind _ (inLines (kind-shifts f)) λ k. andThen (whether (isLineEnd k) (refuses same (at 34 (x .from) (x .to)) tt) (line-shifts p)) (writes LT)
+    content-shifts x p = bind _ (inLines (kind-shifts f)) λ k. andThen (whether (isLineEnd k) (refuses same _ tt) (line-shifts p)) (writes _)
 
     pub times-shifts : (n : ℕ) → ShiftsState f P same (times table n) (times table n)
     unfolding times
@@ -167,7 +167,7 @@ module _ (f : ℕ → ℕ) (P : State → Type 0)
     begun-shifts : ShiftsState f P same (begun table) (begun table)
     unfolding begun moveToken moveRecord
     begun-shifts = bind _ (inLines (ahead-shifts f)) λ x. whether (isLineEnd (x .kind)) (returns same false)
-        (andThen (andThen (writes (ST (x .from))) (line-shifts (times-shifts 16))) (returns same true))
+        (andThen (andThen (writes _) (line-shifts (times-shifts 16))) (returns same true))
 
     pub statement-shifts : ShiftsState f P same (statement table) (statement table)
     unfolding statement

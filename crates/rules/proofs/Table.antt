@@ -9,6 +9,7 @@ use lib.Dec.{eqb, leb, ltb}
 use lib.ListN.{length, length-map, drop, getD}
 use borrow.Author.Tests.{leb-true, ltb-true}
 use Rattle.lexer.specs.Text.{if_then_else_, lower, same, openText}
+use Rattle.lexer.proofs.Branches.{and-split}
 use Rattle.names.specs.Names.{spelling, operationFrom, operationNamed}
 use Rattle.names.specs.Table.{spellings, row, rowsOf, operations}
 
@@ -20,10 +21,6 @@ pub record Proper (table : List ℕ) : Type 0 where
 unfoldable properRows : ℕ → List ℕ → Bool
 properRows zero table = true
 properRows (suc n) table = ltb (getD table 7 0) 99 && (leb 2 (length (spelling table)) && properRows n (drop 8 table))
-
-pub and-both : (b c : Bool) → b && c ≡ true → (b ≡ true) × (c ≡ true)
-and-both true c h = (refl, h)
-and-both false c h = absurd (false≢true h)
 
 pub same-length : (a b : List ℕ) → same a b ≡ true → length a ≡ length b
 unfolding same
@@ -40,8 +37,8 @@ proper-from : (n : ℕ) (w table : List ℕ) (r : ℕ) → properRows n table �
 unfolding operationFrom properRows
 proper-from zero w table r p h = let z : _≡_ {A = ℕ} 0 1 = cc in absurd (omega arith)
 proper-from (suc n) w table r p h =
-    let (a, q) = and-both (ltb (getD table 7 0) 99) _ p in
-    let (b, others) = and-both (leb 2 (length (spelling table))) _ q in
+    let (a, q) = and-split (ltb (getD table 7 0) 99) _ p in
+    let (b, others) = and-split (leb 2 (length (spelling table))) _ q in
     go a b (same w (spelling table)) refl h (λ i. proper-from n w (drop 8 table) r others i)
   where
     go : ltb (getD table 7 0) 99 ≡ true → leb 2 (length (spelling table)) ≡ true → (o : Bool) → same w (spelling table) ≡ o
