@@ -31,7 +31,7 @@ Clean zero s = Unit {0}
 Clean (suc n) [] = ⊥
 Clean (suc n) (c ∷ s) = (is "\n" c ≡ false) × Clean n s
 
--- a number is at most the largest, and a closed string has its two quotes
+-- a number is at most the largest, a closed string has its two quotes, and the end of file has no byte
 abbrev pub InRange : TokenRead → Type 0
 InRange (Read (Literal n (Number z))) = (v : ℕ) × (z ≡ pos v) × (v ≤ 2147483647)
 InRange (Read (Literal n (Text true))) = 2 ≤ n
@@ -41,7 +41,7 @@ InRange (Read (Identifier n)) = Unit {0}
 InRange (Read (Punctuation n k)) = Unit {0}
 InRange (Read (Comment n)) = Unit {0}
 InRange (Read (NewLine n)) = Unit {0}
-InRange (Read (EndOfFile n)) = Unit {0}
+InRange (Read (EndOfFile n)) = n ≡ 0
 InRange (Read (Invalid n c)) = Unit {0}
 InRange (Refused n f) = Unit {0}
 
@@ -257,7 +257,7 @@ tokenAt-fits c d ds h =
 
 pub tokenAt-in-range : (s : List ℕ) → InRange (tokenAt s)
 unfolding tokenAt
-tokenAt-in-range [] = tt
+tokenAt-in-range [] = refl
 tokenAt-in-range (c ∷ cs) = by-first (λ (s : List ℕ) (t : TokenRead). InRange t) (λ cs. tt) (λ c cs f. f .in-range) c cs
 
 pub tokenAt-begun : (c : ℕ) (cs : List ℕ) → Begun (c ∷ cs) (tokenAt (c ∷ cs))

@@ -66,6 +66,10 @@ module _ (k v : ℕ) (w : List ℕ) where
   unfolding refusedAs
   not-refused a b = by-kind (λ n x. eqb n 30 ≡ false → eqb n 31 ≡ false → refusedAs x ≡ none) k v w (λ _ _. refl) (λ _ _. refl) (λ _ _. refl) (λ _ _. refl) (λ _ _. refl) (λ _ _. refl) (λ _ _. refl) (λ e _. cc) (λ _ e. cc) (λ _ _ _ _ _ _. refl) a b
 
+pub kind-end : (v : ℕ) (w : List ℕ) → kindBy 0 v w ≡ newline
+unfolding kindBy
+kind-end v w = refl
+
 pub refused-30 : (v : ℕ) (w : List ℕ) → refusedAs (kindBy 30 v w) ≡ some 30
 unfolding kindBy refusedAs
 refused-30 v w = refl

@@ -1,3 +1,4 @@
 pub mod Chain
 pub mod Flat
 pub mod Stream
+pub mod Steps

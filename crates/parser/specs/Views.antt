@@ -132,3 +132,7 @@ PassesAs L s p m (Stopped r) = Denies L s p m r
 
 pub record Passes (L : Level) (s : List ℕ) (p : Parser) (m : Reader (On L) (Unit {0})) (r : Step) : Type 0 where
   pub so : PassesAs L s p m r
+
+-- The first token from a place on: from a to before e, of kind k and value v; and what stands behind it.
+pub record Fetches (s : List ℕ) (place a e k v : ℕ) : Type 0 where
+  pub tokens : tokensFrom place 0 (drop place s) ≡ tokenOf s a e k v ∷ behind s k e

@@ -1,0 +1,75 @@
+-- From a token to the next: within a line, and from a line's end to the next line.
+-- Assumes nothing.
+use Prim.Native.Nat.{ℕ, zero, suc, _+_, _≤_, _<_}
+use mathlib.Core.Path.{_≡_, refl, sym, ap, _∙_}
+use mathlib.Core.List.{List, [], _∷_}
+use mathlib.Core.Bool.{Bool, true, false, _||_}
+use mathlib.Core.Option.{Option, none, some}
+use native.Mathlib.Omega.{arith}
+use lib.Dec.{eqb}
+use lib.ListN.{length}
+use Rattle.lexer.specs.Text.{if_then_else_, maybe}
+use Rattle.rules.specs.Lexemes.{Kind, Lexeme}
+use Rattle.rules.specs.Reader.{Answer, done, refused, Line, arrive, step, next, isLineEnd, refusedAs}
+use Rattle.rules.specs.Reader.{Refusal as Cause, at as at-span}
+use Rattle.rules.specs.Statements.{Row, State, firstOf, enter, stepRow, nextRow}
+use Rattle.parser.specs.declared.state.Parser.{Parser}
+use Rattle.parser.specs.declared.state.Step.the-variants.{Ahead, Stopped}
+use Rattle.parser.specs.Views.{numbersOf, kindBy, textOf, tokenOf, hereOf, behind, moreOf, belowOf, lineFrom, stateFrom, stateOf, lineOf, rowsOf, line, whole, Comes, Denies, Passes, Fetches}
+use Rattle.parser.proofs.Flat.{line-end-is, not-refused, refused-30, refused-31}
+use Rattle.parser.proofs.Stream.{more-within, below-within, below-end}
+
+-- a token that is refused, and one that is not
+arrive-good : {S A : Type 0} (x : Lexeme) (o : Answer S A) → refusedAs (x .kind) ≡ none → arrive x o ≡ o
+unfolding arrive
+arrive-good x o e = rw e
+
+arrive-bad : {S A : Type 0} (x : Lexeme) (o : Answer S A) (n : ℕ) → refusedAs (x .kind) ≡ some n → arrive x o ≡ refused (at-span n (x .from) (x .to))
+unfolding arrive
+arrive-bad x o n e = rw e
+
+-- where the parser stands, with the next token fetched
+module _ (s : List ℕ) (p : Parser) {a e k v : ℕ} (f : Fetches s (p .pos) a e k v) where
+  abbrev x : Lexeme
+  x = hereOf s p
+
+  abbrev y : Lexeme
+  y = tokenOf s a e k v
+
+  abbrev fetched : ℕ → Parser
+  fetched l = record { pos = e; «token_start» = a; «last_token_end» = l; kind = k; value = v }
+
+  behind-is : eqb (p .kind) 0 ≡ false → behind s (p .kind) (p .pos) ≡ y ∷ behind s k e
+  unfolding behind
+  behind-is z = rw z (f .tokens)
+
+  module _ (n : eqb (p .kind) 10 ≡ false) (z : eqb (p .kind) 0 ≡ false) where
+    within : isLineEnd (x .kind) ≡ false
+    within = line-end-is (p .kind) (p .value) (textOf s (p .«token_start») (p .pos)) ∙ rw (n, z)
+
+    next-is : next (lineOf s p) ≡ arrive y (done [] tt (lineFrom (p .pos) y (behind s k e)))
+    unfolding next step
+    next-is = rw (behind-is z, more-within x y (behind s k e) within)
+
+    rows-are : belowOf y (behind s k e) ≡ rowsOf s p
+    rows-are = sym (rw (behind-is z, below-within x y (behind s k e) within))
+
+    pub next-comes : eqb k 30 ≡ false → eqb k 31 ≡ false → Passes line s p next (Ahead (fetched (p .pos)))
+    next-comes g h = record { so = record { reads = next-is ∙ arrive-good y _ (not-refused k v _ g h); kept = rows-are } }
+
+    pub next-denied : refusedAs (kindBy k v (textOf s a e)) ≡ some k → Passes line s p next (Stopped (numbersOf (at-span k a e)))
+    next-denied g = record { so = record { cause = at-span k a e; reads = next-is ∙ arrive-bad y _ k g; numbers = refl } }
+
+  module _ (n : eqb (p .kind) 10 ≡ true) (z : eqb (p .kind) 0 ≡ false) where
+    at-end : isLineEnd (x .kind) ≡ true
+    at-end = line-end-is (p .kind) (p .value) (textOf s (p .«token_start») (p .pos)) ∙ rw n
+
+    row-is : nextRow (stateOf s p) ≡ arrive y (done [] tt (stateFrom a y (behind s k e)))
+    unfolding nextRow stepRow enter firstOf
+    row-is = rw (behind-is z, below-end x y (behind s k e) at-end)
+
+    pub row-comes : eqb k 30 ≡ false → eqb k 31 ≡ false → Passes whole s p nextRow (Ahead (fetched a))
+    row-comes g h = record { so = record { reads = row-is ∙ arrive-good y _ (not-refused k v _ g h); kept = tt } }
+
+    pub row-denied : refusedAs (kindBy k v (textOf s a e)) ≡ some k → Passes whole s p nextRow (Stopped (numbersOf (at-span k a e)))
+    row-denied g = record { so = record { cause = at-span k a e; reads = row-is ∙ arrive-bad y _ k g; numbers = refl } }
