@@ -7,7 +7,12 @@ use Prim.Native.String.{String}
 use lib.Dec.{eqb}
 use lib.ListN.{take, drop, getD}
 use Rattle.lexer.specs.Text.{if_then_else_, maybe, bytes, lower, same, run}
-use Rattle.names.specs.Table.{operations}
+use Rattle.names.specs.declared.Found.{Found}
+use Rattle.names.specs.declared.Found.the-variants as found
+use Rattle.names.specs.declared.Name.{Name}
+use Rattle.names.specs.declared.Name.the-variants as name
+use Rattle.names.specs.declared.Directive.{Directive}
+use Rattle.names.specs.declared.Directive.the-variants as directive
 
 -- A name's number is its place in its list. Registers by encoding: byte 0 to 7, word 8 to 15.
 unfoldable pub registers : List String
@@ -43,3 +48,15 @@ operationFrom (suc n) w table =
 -- the operation that a word names by a table of 117 rows: that of the first row which spells it
 unfoldable pub operationNamed : List ℕ → List ℕ → Option ℕ
 operationNamed table w = operationFrom 117 (map lower w) table
+
+-- What is found, as the code answers it.
+abbrev pub foundOf : Option ℕ → Found
+foundOf none = found.Nothing
+foundOf (some n) = found.Operation n
+
+-- a register, else a segment, else a size word: 0 byte, 1 word
+abbrev pub nameOf : List ℕ → Name
+nameOf w = maybe (named registers w) (maybe (named segments w) (maybe (named sizes w) name.Other name.Size) name.Segment) name.Register
+
+abbrev pub directiveOf : List ℕ → Directive
+directiveOf w = maybe (named directives w) directive.Other (λ n. getD (directive.Equ ∷ directive.Db ∷ directive.Dw ∷ directive.Times ∷ []) n directive.Other)

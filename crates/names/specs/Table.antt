@@ -11,7 +11,6 @@ pub record Spelling : Type 0 where
   pub operation : ℕ
 
 infix 80 _is_
-
 abbrev pub _is_ : String → ℕ → Spelling
 s is n = record { text = s; operation = n }
 

@@ -1,0 +1,82 @@
+-- A word's place among names is the place of its key among theirs.
+use mathlib.Core.Path.{_≡_, refl, sym, ap, _∙_}
+use mathlib.Core.Bool.{Bool, true, false, _&&_}
+use mathlib.Core.List.{List, [], _∷_, map}
+use mathlib.Core.Option.{Option, none, some}
+use Prim.Native.Nat.{ℕ, suc, _<_}
+use Prim.Native.String.{String}
+use lib.Dec.{T, eqb}
+use lib.ListN.{getD}
+use borrow.Author.Tests.{ne-eqb}
+use Rattle.lexer.specs.Text.{if_then_else_, maybe, bytes, lower, same, all}
+use Rattle.names.specs.declared.Name.{Name}
+use Rattle.names.specs.declared.Name.the-variants as name
+use Rattle.names.specs.declared.Directive.{Directive}
+use Rattle.names.specs.declared.Directive.the-variants as directive
+use Rattle.names.specs.Names.{registers, segments, sizes, directives, placeFrom, named, nameOf, directiveOf}
+use Rattle.names.specs.Keys.{key, keyOf, spelled}
+use Rattle.names.proofs.Keys.{Bytes, both, by-key, lower-small}
+
+abbrev allSpelled : List String → Bool
+allSpelled [] = true
+allSpelled (s ∷ ss) = spelled (bytes s) && allSpelled ss
+
+abbrev pub keysOf : List String → List ℕ
+keysOf [] = []
+keysOf (s ∷ ss) = key (bytes s) ∷ keysOf ss
+
+abbrev pub placeOf : ℕ → ℕ → List ℕ → Option ℕ
+placeOf n x [] = none
+placeOf n x (k ∷ ks) = let r : Option ℕ = placeOf (suc n) x ks in if eqb x k then some n else r
+
+by-keys : (v : List ℕ) → ((i : ℕ) → getD v i 0 < 256) → (n : ℕ) (names : List String) → T (allSpelled names) → placeFrom n v names ≡ placeOf n (keyOf v) (keysOf names)
+unfolding placeFrom
+by-keys v small n [] t = refl
+by-keys v small n (s ∷ ss) t =
+    let b = both (spelled (bytes s)) (allSpelled ss) t in
+    rw (by-key v small (bytes s) (b .0), by-keys v small (suc n) ss (b .1))
+
+-- x is none of the keys, as the rest of a match says it
+abbrev Away : Type 0 → ℕ → List ℕ → Type 0
+Away P x [] = P
+Away P x (k ∷ ks) = Away (P × (x ≡ k → ⊥)) x ks
+
+away : (P : Type 0) (x n : ℕ) (ks : List ℕ) → Away P x ks → P × (placeOf n x ks ≡ none)
+away P x n [] a = (a, refl)
+away P x n (k ∷ ks) a =
+    let r = away (P × (x ≡ k → ⊥)) x (suc n) ks a in
+    (r .0 .0, rw (ne-eqb x k (r .0 .1)) (r .1))
+
+-- what a key names
+abbrev pub nameBy : ℕ → Name
+nameBy x = maybe (placeOf 0 x (keysOf registers)) (maybe (placeOf 0 x (keysOf segments)) (maybe (placeOf 0 x (keysOf sizes)) name.Other name.Size) name.Segment) name.Register
+
+abbrev pub directiveBy : ℕ → Directive
+directiveBy x = maybe (placeOf 0 x (keysOf directives)) directive.Other (λ n. getD (directive.Equ ∷ directive.Db ∷ directive.Dw ∷ directive.Times ∷ []) n directive.Other)
+
+module _ (w : List ℕ) (small : Bytes w) where
+  place : (names : List String) → T (allSpelled names) → named names w ≡ placeOf 0 (keyOf (map lower w)) (keysOf names)
+  unfolding named
+  place names t = by-keys (map lower w) (lower-small w small) 0 names t
+
+  module _ {x : ℕ} (e : x ≡ keyOf (map lower w)) where
+    -- the arm of a key k, and the last arm
+    pub name-at : {k : ℕ} → x ≡ k → nameBy k ≡ nameOf w
+    unfolding registers segments sizes bytes all spelled
+    name-at q = ap nameBy (sym q ∙ e) ∙ sym (rw (place registers tt, place segments tt, place sizes tt))
+
+    pub name-away : Away (Away (Away (Unit {0}) x (keysOf registers)) x (keysOf segments)) x (keysOf sizes) → name.Other ≡ nameOf w
+    unfolding registers segments sizes bytes all spelled
+    name-away a =
+        let z = away (Away (Away (Unit {0}) x (keysOf registers)) x (keysOf segments)) x 0 (keysOf sizes) a in
+        let y = away (Away (Unit {0}) x (keysOf registers)) x 0 (keysOf segments) (z .0) in
+        let r = away (Unit {0}) x 0 (keysOf registers) (y .0) in
+        sym (rw (place registers tt, place segments tt, place sizes tt, ← e, r .1, y .1, z .1))
+
+    pub directive-at : {k : ℕ} → x ≡ k → directiveBy k ≡ directiveOf w
+    unfolding directives bytes all spelled
+    directive-at q = ap directiveBy (sym q ∙ e) ∙ sym (rw (place directives tt))
+
+    pub directive-away : Away (Unit {0}) x (keysOf directives) → directive.Other ≡ directiveOf w
+    unfolding directives bytes all spelled
+    directive-away a = sym (rw (place directives tt, ← e, away (Unit {0}) x 0 (keysOf directives) a .1))
