@@ -1,8 +1,4 @@
 // Letters, numbers and tokens of a marker file, read one at a time by a cursor that goes by value.
-ghost use mathlib.Core.Path.{_≡_};
-ghost use lib.ListN.{take, drop};
-ghost use Rattle.lexer.specs.Tokens.{tokenAt};
-ghost use Rattle.lexer.specs.Scanned.{scannedOf};
 
 pub enum LiteralKind {
     Number(i32),
@@ -60,12 +56,4 @@ pub struct Cursor {
 pub enum Next {
     Token(Token, Cursor),
     Refused(Fault, usize, usize),
-}
-
-extern "C" {
-    pub fn scan(source: &[u8], at: usize) -> Scanned
-        ensures { λ r. ⌜ r ≡ scannedOf at (tokenAt (drop at (now (source .entry)))) ⌝ };
-
-    pub fn source_at(source: &[u8], start: usize, len: usize) -> &[u8]
-        ensures { λ r. ⌜ now r ≡ take len (drop start (now (source .entry))) ⌝ };
 }

@@ -78,6 +78,19 @@ pub refused-31 : (v : ℕ) (w : List ℕ) → refusedAs (kindBy 31 v w) ≡ some
 unfolding kindBy refusedAs
 refused-31 v w = refl
 
+-- the bytes of refused numbers
+pub is-refused : (k v : ℕ) (w : List ℕ) → (eqb k 30 || eqb k 31) ≡ true → refusedAs (kindBy k v w) ≡ some k
+is-refused k v w h = go (eqb k 30) refl (eqb k 31) refl
+  where
+    go : (a : Bool) → eqb k 30 ≡ a → (b : Bool) → eqb k 31 ≡ b → refusedAs (kindBy k v w) ≡ some k
+    go true e b f = rw (eqb-true k 30 e) (refused-30 v w)
+    go false e true f = rw (eqb-true k 31 f) (refused-31 v w)
+    go false e false f = let z : _≡_ {A = Bool} false true = rw (e, f) at h in cc
+
+pub or-false : (a b : Bool) → (a || b) ≡ false → (a ≡ false) × (b ≡ false)
+or-false true b e = (e, cc)
+or-false false b e = (refl, e)
+
 -- The flat form of a token that is no gap, with its text, gives its kind.
 take-length : (n : ℕ) (u : List ℕ) → n ≤ length u → length (take n u) ≡ n
 take-length n u h = length-take n u ∙ omega arith
@@ -115,3 +128,7 @@ flat-kind (Read (EndOfFile n)) r u h g z = absurd (z refl)
 flat-kind (Read (Invalid n c)) r u h g z = refl
 flat-kind (Refused n LargerDigit) r u h g z = refl
 flat-kind (Refused n TooLarge) r u h g z = refl
+
+-- a byte that is m is not n
+pub other-byte : (k m n : ℕ) → eqb k m ≡ true → eqb m n ≡ false → eqb k n ≡ false
+other-byte k m n e f = rw (eqb-true k m e) f

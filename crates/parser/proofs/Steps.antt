@@ -16,7 +16,7 @@ use Rattle.rules.specs.Statements.{Row, State, firstOf, enter, stepRow, nextRow
 use Rattle.parser.specs.declared.state.Parser.{Parser}
 use Rattle.parser.specs.declared.state.Step.the-variants.{Ahead, Stopped}
 use Rattle.parser.specs.Views.{numbersOf, kindBy, textOf, tokenOf, hereOf, behind, moreOf, belowOf, lineFrom, stateFrom, stateOf, lineOf, rowsOf, line, whole, Comes, Denies, Passes, Fetches}
-use Rattle.parser.proofs.Flat.{line-end-is, not-refused, refused-30, refused-31}
+use Rattle.parser.proofs.Flat.{other-byte, line-end-is, not-refused, refused-30, refused-31}
 use Rattle.parser.proofs.Stream.{more-within, below-within, below-end}
 
 -- a token that is refused, and one that is not
@@ -60,13 +60,16 @@ module _ (s : List ℕ) (p : Parser) {a e k v : ℕ} (f : Fetches s (p .pos) a e
     pub next-denied : refusedAs (kindBy k v (textOf s a e)) ≡ some k → Passes line s p next (Stopped (numbersOf (at-span k a e)))
     next-denied g = record { so = record { cause = at-span k a e; reads = next-is ∙ arrive-bad y _ k g; numbers = refl } }
 
-  module _ (n : eqb (p .kind) 10 ≡ true) (z : eqb (p .kind) 0 ≡ false) where
+  module _ (n : eqb (p .kind) 10 ≡ true) where
+    not-over : eqb (p .kind) 0 ≡ false
+    not-over = other-byte (p .kind) 10 0 n refl
+
     at-end : isLineEnd (x .kind) ≡ true
     at-end = line-end-is (p .kind) (p .value) (textOf s (p .«token_start») (p .pos)) ∙ rw n
 
     row-is : nextRow (stateOf s p) ≡ arrive y (done [] tt (stateFrom a y (behind s k e)))
     unfolding nextRow stepRow enter firstOf
-    row-is = rw (behind-is z, below-end x y (behind s k e) at-end)
+    row-is = rw (behind-is not-over, below-end x y (behind s k e) at-end)
 
     pub row-comes : eqb k 30 ≡ false → eqb k 31 ≡ false → Passes whole s p nextRow (Ahead (fetched a))
     row-comes g h = record { so = record { reads = row-is ∙ arrive-good y _ (not-refused k v _ g h); kept = tt } }

@@ -2,8 +2,12 @@
 ghost use mathlib.Core.Path.{_≡_};
 ghost use Prim.Native.Nat.{ℕ, _≤_};
 ghost use lib.ListN.{length};
+ghost use mathlib.Core.Bool.{true, false, _||_};
+ghost use lib.Dec.{eqb};
 ghost use Rattle.rules.specs.Reader.{at};
-ghost use Rattle.parser.specs.Views.{numbersOf};
+ghost use Rattle.rules.specs.Reader.{next as nextToken};
+ghost use Rattle.rules.specs.Statements.{nextRow};
+ghost use Rattle.parser.specs.Views.{numbersOf, line, whole, Passes, Fetches};
 
 // The token ahead stands from `token_start` to before `pos`; the last one passed in its line ended at `last_token_end`.
 // `kind` and `value` are the token's, as the lexer's scan gives them.
@@ -45,4 +49,75 @@ pub fn refused_at(number: u8, from: u32, to: u32) -> Refusal
         first: 255,
         second: 255,
     }
+}
+
+// Refused on the token ahead.
+pub fn refuse_here(p: Parser, number: u8) -> Refusal
+    ensures { λ r. ⌜ r ≡ numbersOf (at number (p .«token_start») (p .pos)) ⌝ }
+{
+    refused_at(number, p.token_start, p.pos)
+}
+
+// A token that means something, where it stands.
+struct Fetched {
+    start: u32,
+    end: u32,
+    kind: u8,
+    value: u32,
+}
+
+// The first token from a place on, past whitespace and comments.
+fn fetch(src: &[u8], place: u32) -> Fetched
+    requires { ⌜ length (now src) ≤ 65536 ⌝ }
+    ensures { λ r. ⌜ Fetches (now (src .entry)) place (r .start) (r .end) (r .kind) (r .value) ⌝ }
+{
+    Fetched {
+        start: place,
+        end: place,
+        kind: 0,
+        value: src.len() as u32,
+    }
+}
+
+// A number that is refused: 30 and 31.
+fn is_fault(kind: u8) -> bool
+    ensures { λ r. ⌜ r ≡ (eqb kind 30 || eqb kind 31) ⌝ }
+{
+    (kind == 30) | (kind == 31)
+}
+
+// The next token of the line becomes the one ahead.
+pub fn next(src: &[u8], p: Parser) -> Step
+    requires { ⌜ (length (now src) ≤ 65536) × (eqb (p .kind) 10 ≡ false) × (eqb (p .kind) 0 ≡ false) ⌝ }
+    ensures { λ r. ⌜ Passes line (now (src .entry)) p nextToken r ⌝ }
+{
+    let t = fetch(src, p.pos);
+    if is_fault(t.kind) {
+        return Step::Stopped(refused_at(t.kind, t.start, t.end));
+    }
+    Step::Ahead(Parser {
+        pos: t.end,
+        token_start: t.start,
+        last_token_end: p.pos,
+        kind: t.kind,
+        value: t.value,
+    })
+}
+
+// The first token of the next line becomes the one ahead; no token of that line is passed yet.
+pub fn next_line(src: &[u8], p: Parser) -> Step
+    requires { ⌜ (length (now src) ≤ 65536) × (eqb (p .kind) 10 ≡ true) ⌝ }
+    ensures { λ r. ⌜ Passes whole (now (src .entry)) p nextRow r ⌝ }
+{
+    let t = fetch(src, p.pos);
+    if is_fault(t.kind) {
+        return Step::Stopped(refused_at(t.kind, t.start, t.end));
+    }
+    Step::Ahead(Parser {
+        pos: t.end,
+        token_start: t.start,
+        last_token_end: t.start,
+        kind: t.kind,
+        value: t.value,
+    })
 }
