@@ -9,7 +9,7 @@ use native.Mathlib.Nat.{le-of-suc-le-suc, not-suc-le-zero, suc-inj, add-zero}
 use native.Mathlib.Omega.{arith}
 use mir.Syntax.{w8}
 use mir.Val.{Fits}
-use lib.Dec.{T, eqb, leb, ltb, eqb→eq, leb→le, ltb→lt, eqb-refl}
+use lib.Dec.{T, eqb, leb, ltb, eqb→eq, leb→le, ltb→lt}
 use lib.ListN.{length, getD, drop, List·getD-map}
 use lib.Seq.{getD-drop}
 use borrow.Author.Tests.{eq-eqb, ne-eqb, eqb-false, le-leb, lt-leb, leb-true}

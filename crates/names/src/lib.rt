@@ -4,7 +4,7 @@ ghost use mathlib.Core.Path.{_≡_};
 ghost use mathlib.Core.Bool.{true};
 ghost use mathlib.Core.List.{[], _∷_, map};
 ghost use Prim.Native.Nat.{ℕ, _+_, _*_, _<_};
-ghost use lib.ListN.{getD, drop};
+ghost use lib.ListN.{getD};
 ghost use Rattle.lexer.specs.Text as text;
 ghost use Rattle.names.specs.Table.{operations};
 ghost use Rattle.names.specs.Names.{operationNamed, foundOf, nameOf, directiveOf};

@@ -23,7 +23,9 @@ returns : tie.Need-returns
 returns c = empty (now (c .before .before .args .word)) (c .if1 .taken)
 
 returns-2 : tie.Need-returns-2
-returns-2 c = long _ (omega (arith, length-map (now (c .before .before .before .args .word)) lower))
+returns-2 c =
+    let w = now (c .before .before .before .args .word) in
+    long (map lower w) (omega (arith, length-map w lower))
 
 sub-letter-at : tie.Need-sub-letter-at
 sub-letter-at c = search needs
@@ -32,7 +34,9 @@ letter-at-requires : tie.Need-letter-at-requires
 letter-at-requires c κs = search needs
 
 returns-3 : tie.Need-returns-3
-returns-3 c = null _ (last (now (c .before .before .before .before .before .args .word)) ∙ sym (c .before .letter-at .ensures) ∙ c .if3 .taken)
+returns-3 c =
+    let w = now (c .before .before .before .before .before .args .word) in
+    null (map lower w) (last w ∙ sym (c .before .letter-at .ensures) ∙ c .if3 .taken)
 
 letters-requires : tie.Need-letters-requires
 letters-requires c κs = search needs
