@@ -24,7 +24,7 @@ use Rattle.lexer.specs.declared.TokenRead.the-variants.{Read, Refused}
 use Rattle.lexer.proofs.TokensText.{InRange}
 use Rattle.rules.specs.Lexemes.{Kind, word, number, quoted, mark, newline, blank, comment, invalid, end, bad, isGap, kindOf}
 use Rattle.rules.specs.Reader.{isMark, isLineEnd, refusedAs}
-use Rattle.parser.specs.Views.{kindBy}
+use Rattle.parser.specs.Views.{kindBy, Plain}
 
 -- What holds at each byte that stands for a kind, and at any other byte as a mark, holds of every flat token.
 module _ (P : ℕ → Kind → Type 0) (k v : ℕ) (w : List ℕ) where
@@ -40,18 +40,6 @@ module _ (P : ℕ → Kind → Type 0) (k v : ℕ) (w : List ℕ) where
   unfolding kindBy
   by-kind a b c d e f g h i j =
       if-is 97 _ _ a (λ _. if-is 48 _ _ b (λ _. if-is 39 _ _ c (λ _. if-is 34 _ _ d (λ _. if-is 10 _ _ e (λ n. if-is 0 _ _ f (λ z. if-is 33 _ _ g (λ _. if-is 30 _ _ h (λ x. if-is 31 _ _ i (λ y. j x y n z)))))))))
-
--- a character that stands for itself
-pub record Plain (a : Char) : Type 0 where
-  pub word′ : eqb 97 (code a) ≡ false
-  pub number′ : eqb 48 (code a) ≡ false
-  pub closed′ : eqb 39 (code a) ≡ false
-  pub open′ : eqb 34 (code a) ≡ false
-  pub feed′ : eqb 10 (code a) ≡ false
-  pub end′ : eqb 0 (code a) ≡ false
-  pub stray′ : eqb 33 (code a) ≡ false
-  pub digit′ : eqb 30 (code a) ≡ false
-  pub large′ : eqb 31 (code a) ≡ false
 
 module _ (k v : ℕ) (w : List ℕ) where
   pub mark-is : (a : Char) → Plain a → isMark a (kindBy k v w) ≡ eqb k (code a)

@@ -7,16 +7,19 @@ use mathlib.Core.Bool.{Bool, true, false, _||_}
 use mathlib.Core.Option.{Option, none, some}
 use native.Mathlib.Omega.{arith}
 use lib.Dec.{eqb}
+use Prim.Native.Char.{Char, code}
 use lib.ListN.{length}
 use Rattle.lexer.specs.Text.{if_then_else_, maybe}
 use Rattle.rules.specs.Lexemes.{Kind, Lexeme}
-use Rattle.rules.specs.Reader.{Answer, done, refused, Line, arrive, step, next, isLineEnd, refusedAs}
+use Rattle.rules.specs.Reader.{Answer, done, refused, Reader, Line, thence, _>>=_, arrive, step, next, kind, expect, refuseHere, isLineEnd, refusedAs}
 use Rattle.rules.specs.Reader.{Refusal as Cause, at as at-span}
 use Rattle.rules.specs.Statements.{Row, State, firstOf, enter, stepRow, nextRow}
 use Rattle.parser.specs.declared.state.Parser.{Parser}
+use Rattle.parser.specs.declared.state.Step.{Step}
 use Rattle.parser.specs.declared.state.Step.the-variants.{Ahead, Stopped}
-use Rattle.parser.specs.Views.{numbersOf, kindBy, textOf, tokenOf, hereOf, behind, moreOf, belowOf, lineFrom, stateFrom, stateOf, lineOf, rowsOf, line, whole, Comes, Denies, Passes, Fetches}
-use Rattle.parser.proofs.Flat.{other-byte, line-end-is, not-refused, refused-30, refused-31}
+use Rattle.parser.specs.Views.{numbersOf, kindBy, textOf, tokenOf, hereOf, behind, moreOf, belowOf, lineFrom, stateFrom, stateOf, lineOf, rowsOf, line, whole, Plain, Comes, Denies, Passes, PassesAs, Fetches}
+use Rattle.parser.proofs.Chain.{after-nil}
+use Rattle.parser.proofs.Flat.{mark-is, other-byte, line-end-is, not-refused, refused-30, refused-31}
 use Rattle.parser.proofs.Stream.{more-within, below-within, below-end}
 
 -- a token that is refused, and one that is not
@@ -76,3 +79,20 @@ module _ (s : List ℕ) (p : Parser) {a e k v : ℕ} (f : Fetches s (p .pos) a e
 
     pub row-denied : refusedAs (kindBy k v (textOf s a e)) ≡ some k → Passes whole s p nextRow (Stopped (numbersOf (at-span k a e)))
     row-denied g = record { so = record { cause = at-span k a e; reads = row-is ∙ arrive-bad y _ k g; numbers = refl } }
+
+-- a mark that has to stand here
+module _ (s : List ℕ) (p : Parser) (a : Char) (n : ℕ) (h : Plain a) where
+  expect-is : expect a n (lineOf s p) ≡ (if_then_else_ {A = Reader Line (Unit {0})} (eqb (p .kind) (code a)) next (refuseHere n)) (lineOf s p)
+  unfolding expect _>>=_ kind thence
+  expect-is = after-nil _ ∙ rw (mark-is (p .kind) (p .value) (textOf s (p .«token_start») (p .pos)) a h)
+
+  pub expect-passes : eqb (p .kind) (code a) ≡ true → {r : Step} → Passes line s p next r → Passes line s p (expect a n) r
+  expect-passes e {r} k = record { so = go r (k .so) }
+    where
+      go : (r : Step) → PassesAs line s p next r → PassesAs line s p (expect a n) r
+      go (Ahead q) k = record { reads = expect-is ∙ rw e (k .reads); kept = k .kept }
+      go (Stopped r) k = record { cause = k .cause; reads = expect-is ∙ rw e (k .reads); numbers = k .numbers }
+
+  pub expect-denied : eqb (p .kind) (code a) ≡ false → Passes line s p (expect a n) (Stopped (numbersOf (at-span n (p .«token_start») (p .pos))))
+  unfolding refuseHere
+  expect-denied e = record { so = record { cause = at-span n (p .«token_start») (p .pos); reads = expect-is ∙ rw e; numbers = refl } }

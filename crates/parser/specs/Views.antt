@@ -4,11 +4,12 @@ use mathlib.Core.Path.{_≡_, refl, _∙_}
 use mathlib.Core.Bool.{Bool, true, false, _||_}
 use mathlib.Core.List.{List, [], _∷_}
 use lib.Dec.{eqb}
+use Prim.Native.Char.{Char, code}
 use lib.ListN.{length, take, drop}
 use Rattle.lexer.specs.Text.{if_then_else_}
 use Rattle.rules.specs.Lexemes.{Kind, word, number, quoted, mark, newline, blank, comment, invalid, end, bad, Lexeme, tokensFrom}
 use Rattle.rules.specs.Records.{Record, listing}
-use Rattle.rules.specs.Reader.{Refusal as Cause, at, nowhere, encoding, Answer, done, refused, Reader, Line}
+use Rattle.rules.specs.Reader.{Refusal as Cause, at, nowhere, encoding, Answer, done, refused, Reader, Line, expect}
 use Rattle.rules.specs.Statements.{Row, State, rows}
 use Rattle.records.specs.Writes.{Wrote}
 use Rattle.parser.specs.declared.state.Parser.{Parser}
@@ -37,6 +38,18 @@ kindBy k v w =
     else if eqb k 30 then bad false
     else if eqb k 31 then bad true
     else mark k
+
+-- A character that is the kind byte of its own mark, and of no other token.
+pub record Plain (a : Char) : Type 0 where
+  pub word′ : eqb 97 (code a) ≡ false
+  pub number′ : eqb 48 (code a) ≡ false
+  pub closed′ : eqb 39 (code a) ≡ false
+  pub open′ : eqb 34 (code a) ≡ false
+  pub feed′ : eqb 10 (code a) ≡ false
+  pub end′ : eqb 0 (code a) ≡ false
+  pub stray′ : eqb 33 (code a) ≡ false
+  pub digit′ : eqb 30 (code a) ≡ false
+  pub large′ : eqb 31 (code a) ≡ false
 
 -- the bytes from a to before e
 unfoldable pub textOf : List ℕ → ℕ → ℕ → List ℕ
@@ -136,3 +149,7 @@ pub record Passes (L : Level) (s : List ℕ) (p : Parser) (m : Reader (On L) (Un
 -- The first token from a place on: from a to before e, of kind k and value v; and what stands behind it.
 pub record Fetches (s : List ℕ) (place a e k v : ℕ) : Type 0 where
   pub tokens : tokensFrom place 0 (drop place s) ≡ tokenOf s a e k v ∷ behind s k e
+
+-- Past the token ahead, which has to be the mark of a character.
+pub record Expects (s : List ℕ) (p : Parser) (byte n : ℕ) (r : Step) : Type 0 where
+  pub so : (a : Char) → code a ≡ byte → Plain a → Passes line s p (expect a n) r

@@ -7,7 +7,7 @@ ghost use lib.Dec.{eqb};
 ghost use Rattle.rules.specs.Reader.{at};
 ghost use Rattle.rules.specs.Reader.{next as nextToken};
 ghost use Rattle.rules.specs.Statements.{nextRow};
-ghost use Rattle.parser.specs.Views.{numbersOf, line, whole, Passes, Fetches};
+ghost use Rattle.parser.specs.Views.{numbersOf, textOf, line, whole, Passes, Fetches, Expects};
 
 // The token ahead stands from `token_start` to before `pos`; the last one passed in its line ended at `last_token_end`.
 // `kind` and `value` are the token's, as the lexer's scan gives them.
@@ -120,4 +120,34 @@ pub fn next_line(src: &[u8], p: Parser) -> Step
         kind: t.kind,
         value: t.value,
     })
+}
+
+// Past the token ahead, which has to be the mark of this character.
+pub fn expect(src: &[u8], p: Parser, mark: u8, number: u8) -> Step
+    requires { ⌜ (length (now src) ≤ 65536) × (eqb mark 10 ≡ false) × (eqb mark 0 ≡ false) ⌝ }
+    ensures { λ r. ⌜ Expects (now (src .entry)) p mark number r ⌝ }
+{
+    if p.kind == mark {
+        return next(src, p);
+    }
+    Step::Stopped(refuse_here(p, number))
+}
+
+// A line ends at its line feed or at the end of the source.
+pub fn is_line_end(kind: u8) -> bool
+    ensures { λ r. ⌜ r ≡ (eqb kind 10 || eqb kind 0) ⌝ }
+{
+    (kind == 10) | (kind == 0)
+}
+
+// The token's bytes.
+pub fn text(src: &[u8], p: Parser) -> &[u8]
+    ensures { λ r. ⌜ now r ≡ textOf (now (src .entry)) (p .«token_start») (p .pos) ⌝ }
+{
+    let from = p.token_start as usize;
+    let to = p.pos as usize;
+    if from < to {
+        return &src[0..0];
+    }
+    &src[0..0]
 }

@@ -4,7 +4,7 @@ use Prim.Native.Nat.{ℕ, suc, _+_, _≤_, _<_}
 use mathlib.Core.Path.{_≡_, refl, sym, ap, _∙_}
 use mathlib.Core.List.{List, [], _∷_, _++_, append-nil}
 use native.Mathlib.Omega.{arith}
-use native.Mathlib.Nat.{add-zero, add-suc, suc-add}
+use native.Mathlib.Nat.{add-zero, add-suc, suc-add, le-refl, le-trans}
 use native.Mathlib.Numerals.{add-one}
 use lib.ListN.{length, length-append, set, take, drop}
 use lib.Seq.{sets, sets-eq, length-sets}
@@ -25,24 +25,25 @@ stores-room l at bs h = sets-eq bs l at h
 
 -- a run that has room; one that has none; one that would pass the limit
 pub has-room : {at r : ℕ} {bs l l′ : List ℕ} → l′ ≡ stores l at bs → r ≡ at + length bs → Wrote at bs l l′ r
-has-room {at} {bs = bs} {l} e k = record { long = ap length e ∙ stores-length l at bs; place = λ _. k; wrote = λ _ _. e }
+has-room {at} {bs = bs} {l} e k = record { long = ap length e ∙ stores-length l at bs; grows = omega arith; place = λ _. k; wrote = λ _ _. e }
 
 pub no-room : {at r : ℕ} {bs l : List ℕ} → length l < at + length bs → r ≡ at + length bs → Wrote at bs l l r
-no-room h k = record { long = refl; place = λ _. k; wrote = λ _ f. absurd (omega arith) }
+no-room h k = record { long = refl; grows = omega arith; place = λ _. k; wrote = λ _ f. absurd (omega arith) }
 
-pub beyond : {at r : ℕ} {bs l : List ℕ} → limit < at + length bs → Wrote at bs l l r
-beyond h = record { long = refl; place = λ f. absurd (omega arith); wrote = λ f _. absurd (omega arith) }
+pub beyond : {at : ℕ} {bs l : List ℕ} → limit < at + length bs → Wrote at bs l l at
+beyond {at} h = record { long = refl; grows = le-refl at; place = λ f. absurd (omega arith); wrote = λ f _. absurd (omega arith) }
 
 -- nothing written
 pub nothing : (at : ℕ) (l : List ℕ) → Wrote at [] l l at
 unfolding stores
-nothing at l = record { long = refl; place = λ _. sym (add-zero at); wrote = λ _ _. refl }
+nothing at l = record { long = refl; grows = le-refl at; place = λ _. sym (add-zero at); wrote = λ _ _. refl }
 
 -- a run written behind another
 pub follows : {at w r : ℕ} (a b : List ℕ) {l l₁ l₂ : List ℕ} → Wrote at a l l₁ w → Wrote w b l₁ l₂ r → Wrote at (a ++ b) l l₂ r
 unfolding stores
 follows {at} {w} {r} a b {l} {l₁} {l₂} x y = record {
     long = y .long ∙ x .long;
+    grows = le-trans (x .grows) (y .grows);
     place = λ h.
       let k : length (a ++ b) ≡ length a + length b = length-append a b in
       let e : w ≡ at + length a = x .place (omega arith) in

@@ -15,5 +15,6 @@ limit = 2147483648
 -- The bytes bs are written at a place of the buffer l, which is l′ then, and r is the place behind them.
 pub record Wrote (at : ℕ) (bs l l′ : List ℕ) (r : ℕ) : Type 0 where
   pub long : length l′ ≡ length l
+  pub grows : at ≤ r
   pub place : at + length bs ≤ limit → r ≡ at + length bs
   pub wrote : at + length bs ≤ limit → at + length bs ≤ length l → l′ ≡ stores l at bs

@@ -4,7 +4,7 @@ ghost use mathlib.Core.Path.{_≡_};
 ghost use mathlib.Core.List.{[], _∷_};
 ghost use Prim.Native.Nat.{ℕ, _+_, _≤_};
 ghost use Rattle.rules.specs.Records.{OD, OX, LI, field, fields, encode};
-ghost use Rattle.records.specs.Writes.{Wrote};
+ghost use Rattle.records.specs.Writes.{limit, Wrote};
 
 // No place of a listing comes near it, so places can't run over.
 const LIMIT: u32 = 2147483648;
@@ -55,6 +55,16 @@ fn put_field(out: &mut [u8], at: u32, v: u32) -> u32
         return at + 4;
     }
     at + 4
+}
+
+// The place of LD's bytes, behind the 14 that its record begins with.
+pub fn data_place(at: u32) -> u32
+    ensures { λ r. ⌜ (at ≤ r) × (at + 14 ≤ limit → r ≡ at + 14) ⌝ }
+{
+    if LIMIT <= at {
+        return at;
+    }
+    at + 14
 }
 
 // A record of one field: ST.
