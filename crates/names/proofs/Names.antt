@@ -8,12 +8,12 @@ use Prim.Native.String.{String}
 use lib.Dec.{T, eqb}
 use lib.ListN.{getD}
 use borrow.Author.Tests.{ne-eqb}
-use Rattle.lexer.specs.Text.{if_then_else_, maybe, bytes, lower, same, all}
+use Rattle.lexer.specs.Text.{if_then_else_, bytes, lower, same, all}
 use Rattle.names.specs.declared.Name.{Name}
 use Rattle.names.specs.declared.Name.the-variants as name
 use Rattle.names.specs.declared.Directive.{Directive}
 use Rattle.names.specs.declared.Directive.the-variants as directive
-use Rattle.names.specs.Names.{registers, segments, sizes, directives, placeFrom, named, nameOf, directiveOf}
+use Rattle.names.specs.Names.{registers, segments, sizes, directives, placeFrom, named, nameFrom, nameOf, directiveFrom, directiveOf}
 use Rattle.names.specs.Keys.{key, keyOf, spelled}
 use Rattle.names.proofs.Keys.{Bytes, both, by-key, lower-small}
 
@@ -49,10 +49,10 @@ away P x n (k ∷ ks) a =
 
 -- what a key names
 abbrev pub nameBy : ℕ → Name
-nameBy x = maybe (placeOf 0 x (keysOf registers)) (maybe (placeOf 0 x (keysOf segments)) (maybe (placeOf 0 x (keysOf sizes)) name.Other name.Size) name.Segment) name.Register
+nameBy x = nameFrom (placeOf 0 x (keysOf registers)) (placeOf 0 x (keysOf segments)) (placeOf 0 x (keysOf sizes))
 
 abbrev pub directiveBy : ℕ → Directive
-directiveBy x = maybe (placeOf 0 x (keysOf directives)) directive.Other (λ n. getD (directive.Equ ∷ directive.Db ∷ directive.Dw ∷ directive.Times ∷ []) n directive.Other)
+directiveBy x = directiveFrom (placeOf 0 x (keysOf directives))
 
 module _ (w : List ℕ) (small : Bytes w) where
   place : (names : List String) → T (allSpelled names) → named names w ≡ placeOf 0 (keyOf (map lower w)) (keysOf names)

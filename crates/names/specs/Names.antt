@@ -55,8 +55,14 @@ foundOf none = found.Nothing
 foundOf (some n) = found.Operation n
 
 -- a register, else a segment, else a size word: 0 byte, 1 word
+abbrev pub nameFrom : Option ℕ → Option ℕ → Option ℕ → Name
+nameFrom r s z = maybe r (maybe s (maybe z name.Other name.Size) name.Segment) name.Register
+
 abbrev pub nameOf : List ℕ → Name
-nameOf w = maybe (named registers w) (maybe (named segments w) (maybe (named sizes w) name.Other name.Size) name.Segment) name.Register
+nameOf w = nameFrom (named registers w) (named segments w) (named sizes w)
+
+abbrev pub directiveFrom : Option ℕ → Directive
+directiveFrom d = maybe d directive.Other (λ n. getD (directive.Equ ∷ directive.Db ∷ directive.Dw ∷ directive.Times ∷ []) n directive.Other)
 
 abbrev pub directiveOf : List ℕ → Directive
-directiveOf w = maybe (named directives w) directive.Other (λ n. getD (directive.Equ ∷ directive.Db ∷ directive.Dw ∷ directive.Times ∷ []) n directive.Other)
+directiveOf w = directiveFrom (named directives w)

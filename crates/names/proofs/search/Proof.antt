@@ -17,9 +17,6 @@ use Rattle.names.proofs.Keys.{eight-key}
 use Rattle.names.proofs.Rows.{rising}
 use Rattle.names.proofs.search.Statement.{statement}
 use Rattle.names.proofs.search.Tie as tie
-use Rattle.names.proofs.search.Reads as reads
-use Rattle.names.proofs.search.Lts as lts
-use Rattle.names.proofs.row_at.Reads as row-at-reads
 
 record Bounds (t : List ℕ) (key row rows : ℕ) : Type 0 where
   pub left : 1 ≤ rows
