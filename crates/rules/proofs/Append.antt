@@ -202,8 +202,15 @@ module _ (table : List ℕ) where
     unfolding thence after
     then-agree g c (both h) = both h
     then-agree g c (neither m) = neither m
-    then-agree g c (lacking {q = q} l p) = lacking tt (record { n = p .n; x = p .x; w = p .w; z = p .z ++ g; a = c; few = p .few;
-        form = ap (λ (r : Answer State _). thence r (λ _ s. done g c s)) (p .form) ∙ closing-then (p .w) (p .z) g (p .a) c _ })
+    then-agree g c (lacking {q = q} l p) = lacking tt (record {
+      n = p .n;
+      x = p .x;
+      w = p .w;
+      z = p .z ++ g;
+      a = c;
+      few = p .few;
+      form = ap (λ (r : Answer State _). thence r (λ _ s. done g c s)) (p .form) ∙ closing-then (p .w) (p .z) g (p .a) c _;
+    })
     then-agree g c (halted l e h) = halted tt e h
 
     thenWrites : {R R′ : State → State → Type 0} {m : Reader State (Unit {0})} (r : Record) → Keeps b bs true R R′ m → Keeps b bs true R R′ (m >> write r)
@@ -300,17 +307,17 @@ module _ (table : List ℕ) where
     instruction-open : (x : Lexeme) (op : ℕ) → Keeps b bs true (In es b bs) (Open es b bs) (instruction x op)
     unfolding instruction
     instruction-open x op = whether (eqb op rep || eqb op repne)
-        (opened (bind (inLines passed-mild) λ t. writes (LI (x .from) t op 0 t t)))
-        (bind (inLines operands-mild) λ o. bind (inLines passed-mild) λ t. thenWrites (LI (x .from) t op (o .count) (o .from) (o .to)) lineEnd-open)
+        (opened (bind (inLines passed-mild) λ t. writes _))
+        (bind (inLines operands-mild) λ o. bind (inLines passed-mild) λ t. thenWrites _ lineEnd-open)
 
     constant-open : (x : Lexeme) → Keeps b bs true (In es b bs) (Open es b bs) (constant x)
     unfolding constant
-    constant-open x = andThen (inLines expression-mild) (bind (inLines passed-mild) λ t. thenWrites (LC (x .from) t) lineEnd-open)
+    constant-open x = andThen (inLines expression-mild) (bind (inLines passed-mild) λ t. thenWrites _ lineEnd-open)
 
     someData-open : (x : Lexeme) (ds : List ℕ) → Keeps b bs true (In es b bs) (Open es b bs) (someData x ds)
     unfolding someData
-    someData-open x [] = refuses (at 23 (x .from) (x .to)) refl
-    someData-open x (d ∷ ds) = bind (inLines passed-mild) λ t. thenWrites (LD (x .from) t (d ∷ ds)) lineEnd-open
+    someData-open x [] = refuses _ refl
+    someData-open x (d ∷ ds) = bind (inLines passed-mild) λ t. thenWrites _ lineEnd-open
 
     dataOf-open : (x : Lexeme) (width : ℕ) → Keeps b bs true (In es b bs) (Open es b bs) (dataOf x width)
     unfolding dataOf
@@ -337,7 +344,7 @@ module _ (table : List ℕ) where
       where
         go′ : (o : Bool) → isLineEnd (l .here .kind) ≡ o → (Skipped es b bs) (skip (firstOf r) (rs ++ es)) (skip (firstOf r) (rs ++ (b ∷ bs)))
             → (Skipped es b bs) (if o then (arrive (r .first) (skip (firstOf r) (rs ++ es))) else (done [] tt (record { line = l; below = r ∷ (rs ++ es) })))
-              (if o then (arrive (r .first) (skip (firstOf r) (rs ++ (b ∷ bs)))) else (done [] tt (record { line = l; below = r ∷ (rs ++ (b ∷ bs)) })))
+            (if o then (arrive (r .first) (skip (firstOf r) (rs ++ (b ∷ bs)))) else (done [] tt (record { line = l; below = r ∷ (rs ++ (b ∷ bs)) })))
         go′ true h i = arrive-skipped (r .first) i
         go′ false h i = still (inside l (r ∷ rs)) h
 
@@ -377,13 +384,20 @@ module _ (table : List ℕ) where
     unfolding return thence after
     went-on (both h) = went h
     went-on (neither m) = stopped m
-    went-on (lacking {q = q} l p) = lacks (record { n = p .n; x = p .x; w = p .w; z = p .z ++ []; a = true; few = p .few;
-        form = ap (λ (r : Answer State _). thence r (λ _ s. done [] true s)) (p .form) ∙ closing-then (p .w) (p .z) [] (p .a) true _ })
+    went-on (lacking {q = q} l p) = lacks (record {
+      n = p .n;
+      x = p .x;
+      w = p .w;
+      z = p .z ++ [];
+      a = true;
+      few = p .few;
+      form = ap (λ (r : Answer State _). thence r (λ _ s. done [] true s)) (p .form) ∙ closing-then (p .w) (p .z) [] (p .a) true _;
+    })
     went-on (halted l e h) = halts e h
 
     read-next : (x : Lexeme) {s t : State} → (In es b bs) s t → Next ((write (ST (x .from)) >> line table (times table 16) >> return true) s) ((write (ST (x .from)) >> line table (times table 16) >> return true) t)
     unfolding _>>_ _>>=_
-    read-next x h = went-on (thence-agree (λ _. line table (times table 16)) (λ _. line-open (times-open 16 (omega arith))) (writes (ST (x .from)) .law h))
+    read-next x h = went-on (thence-agree (λ _. line table (times table 16)) (λ _. line-open (times-open 16 (omega arith))) (writes _ .law h))
 
     plain-next : {p q : Answer State Bool} → Next p q → Next (after [] p) (after [] q)
     plain-next {p} {q} h = rw (after-nil p, after-nil q) h
@@ -442,18 +456,18 @@ module _ (table : List ℕ) where
     plainly {w} {u} {q} h g = rw (h, ← after-nil q) (on g)
 
     stop-case : {pa qa : Answer State Bool} {w : List Record} {u : State} {q : Answer State (Unit {0})} → Next pa qa → pa ≡ done w false u → Continues qa q → Follows (done w tt u) q
-    stop-case (went h) z c = let y : true ≡ false = cc in absurd (true≢false y)
-    stop-case (Next.stopped m) z c = let y : _≡_ {A = ℕ} 0 1 = cc in absurd (zero-one y)
-    stop-case (lacks p) z c = let y : _≡_ {A = ℕ} 0 1 = cc in absurd (zero-one y)
-    stop-case (halts e h) z c = let y : true ≡ false = cc in absurd (true≢false y)
+    stop-case (went h) z c = absurd (true≢false cc)
+    stop-case (Next.stopped m) z c = absurd (true≢false cc)
+    stop-case (lacks p) z c = absurd (true≢false cc)
+    stop-case (halts e h) z c = absurd (true≢false cc)
     stop-case {w = w} (none-left u e) z c = let y : w ≡ [] = cc in plainly y (begins c)
 
     fail-case : {pa qa : Answer State Bool} {r : Refusal} {q : Answer State (Unit {0})} → Next pa qa → pa ≡ refused r → Continues qa q → Follows (refused r) q
-    fail-case (went h) z c = let y : _≡_ {A = ℕ} 0 1 = cc in absurd (zero-one y)
+    fail-case (went h) z c = absurd (true≢false cc)
     fail-case {r = r} (Next.stopped {r = r′} m) z Continues.fail = let y : r ≡ r′ = cc in rw y (same m)
     fail-case {r = r} {q} (lacks {f} {t} p) z c = let y : r ≡ at 34 f t = cc in rw (y, ← after-nil q) (late [] p c)
-    fail-case (halts e h) z c = let y : _≡_ {A = ℕ} 0 1 = cc in absurd (zero-one y)
-    fail-case (none-left u e) z c = let y : _≡_ {A = ℕ} 0 1 = cc in absurd (zero-one y)
+    fail-case (halts e h) z c = absurd (true≢false cc)
+    fail-case (none-left u e) z c = absurd (true≢false cc)
 
     -- a run at the end
     ends : {u : State} {p : Answer State (Unit {0})} → Ending u → Reads u p → p ≡ done [] tt u
@@ -469,13 +483,13 @@ module _ (table : List ℕ) where
         let y : s ≡ u = cc in
         let y′ : w′ ≡ w = cc in
         rw y′ (follows-after w (i _ _ (rw y at h) g))
-    go-case (Next.stopped m) z r i c = let y : _≡_ {A = ℕ} 0 1 = cc in absurd (zero-one y)
-    go-case (lacks p) z r i c = let y : _≡_ {A = ℕ} 0 1 = cc in absurd (zero-one y)
+    go-case (Next.stopped m) z r i c = absurd (true≢false cc)
+    go-case (lacks p) z r i c = absurd (true≢false cc)
     go-case {w = w} {u} {p} (halts {u = u′} e h) z r i Continues.fail =
         let y : u′ ≡ u = cc in
         let y′ : p ≡ done [] tt u = ends (rw y at e) r in
         rw y′ (follows-after w (on {w = []} {u = u} (broken h)))
-    go-case (none-left u′ e) z r i c = let y : true ≡ false = cc in absurd (true≢false y)
+    go-case (none-left u′ e) z r i c = absurd (true≢false cc)
 
     -- THE APPEND LAW of runs.
     pub lockstep : {s t : State} {p q : Answer State (Unit {0})} → Reads s p → Open es b bs s t → Reads t q → Follows p q

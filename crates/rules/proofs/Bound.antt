@@ -6,7 +6,7 @@ use mathlib.Core.List.{List, [], _∷_, _++_}
 use Prim.Native.Nat.{ℕ, zero, suc, pred, _+_, _*_, _≤_, _<_, zero-le}
 use native.Mathlib.Omega.{arith}
 use native.Mathlib.Nat.{le-refl}
-use lib.ListN.{length}
+use lib.ListN.{length, length-append}
 use Rattle.lexer.specs.Text.{if_then_else_, isDigit, isLetter, isWordPart, run}
 use Rattle.lexer.specs.Tokens.{tokenAt, sizeOf}
 use Rattle.lexer.specs.declared.LiteralKind.the-variants.{Number, Text}
@@ -26,7 +26,9 @@ use Rattle.rules.proofs.Shape.{Small, Chain, chain-le, chain-low}
 use Rattle.rules.proofs.ShapeState.{flat}
 use Rattle.rules.proofs.LexSound.{chain-plain, chain-skip, flat-rows}
 use Rattle.rules.proofs.Cut.{rowsFrom, Gives, accepts-run}
-use Rattle.rules.proofs.Cost.{weight, weight-append, Post, holds, fails, Spaced, On}
+use Rattle.rules.proofs.Records.{listing-append}
+use Rattle.rules.proofs.Hoare.{Post, holds, fails}
+use Rattle.rules.proofs.Cost.{weight, Writes, run-weight, Spaced, On}
 use Rattle.rules.proofs.CostState.{OnS, statement-on}
 
 abbrev Bounded : ℕ → ℕ → Answer State (Unit {0}) → Type 0
@@ -119,7 +121,7 @@ lead p zero (c ∷ cs) m h o =
     let t : TokenRead = tokenAt (c ∷ cs) in
     let e : p + 0 ≡ p = omega arith in
     rw e (put-beyond p t (c ∷ cs) (tokensFrom (suc p) (pred (sizeOf t)) cs) (λ i. true≢false (sym (digit-part c (number-digit t c cs (tokenAt-begun c cs) i)) ∙ o))
-      (from-chain (suc p + length cs) (suc p + length cs) p (tokensFrom (suc p) (pred (sizeOf t)) cs) (chain-low (suc p + length cs) (suc p + length cs) (suc p + pred (sizeOf t)) (suc p) (tokensFrom (suc p) (pred (sizeOf t)) cs) (omega arith) (chain-skip (suc p) (pred (sizeOf t)) cs (m .1) (omega (arith, tokenAt-le (c ∷ cs)))))))
+    (from-chain (suc p + length cs) (suc p + length cs) p (tokensFrom (suc p) (pred (sizeOf t)) cs) (chain-low (suc p + length cs) (suc p + length cs) (suc p + pred (sizeOf t)) (suc p) (tokensFrom (suc p) (pred (sizeOf t)) cs) (omega arith) (chain-skip (suc p) (pred (sizeOf t)) cs (m .1) (omega (arith, tokenAt-le (c ∷ cs)))))))
 
 put-spaced : (p : ℕ) (t : TokenRead) (s : List ℕ) (xs : List Lexeme) → (isWord (kindOf t s) ≡ true → Beyond (p + sizeOf t) xs) → Spaced xs → Spaced (put p t s xs)
 unfolding put lexeme
@@ -140,22 +142,22 @@ spaced p zero (c ∷ cs) m h =
     let j : sizeOf t ≤ suc (length cs) = tokenAt-le (c ∷ cs) in
     let e : p + sizeOf t ≡ suc p + pred (sizeOf t) = omega arith in
     put-spaced p t (c ∷ cs) (tokensFrom (suc p) (pred (sizeOf t)) cs)
-      (λ w. rw e (lead (suc p) (pred (sizeOf t)) cs (m .1) (omega arith) (stops-behind c cs w))) (spaced (suc p) (pred (sizeOf t)) cs (m .1) (omega arith))
+    (λ w. rw e (lead (suc p) (pred (sizeOf t)) cs (m .1) (omega arith) (stops-behind c cs w))) (spaced (suc p) (pred (sizeOf t)) cs (m .1) (omega arith))
 
 module _ (table : List ℕ) (proper : Proper table) where
   module _ (n hi : ℕ) where
-    stop-bound : {d : ℕ} {w : List Record} {t : State} → Post (λ _. OnS n hi 6 6) d (done w false t) → d + weight w ≤ 18 * n
-    stop-bound (holds {s = t} q) =
+    stop-bound : {d : ℕ} {w : List Record} {t : State} → Post Writes (λ _. OnS n hi 6 6) d (done w false t) → d + weight w ≤ 18 * n
+    stop-bound (holds {s = t} r q) =
         let i : t .line .here .to ≤ n = chain-le n hi (t .line .here .to) (t .line .more ++ flat (t .below)) (q .chain .2) in
-        omega (arith, q .paid, q .chain .1 .ordered)
+        omega (arith, run-weight r, q .paid, q .chain .1 .ordered)
 
     after-bound : (d : ℕ) (w : List Record) (p : Answer State (Unit {0})) → Bounded n (d + weight w) p → Bounded n d (after w p)
     unfolding after
-    after-bound d w (done v a s) h = rw (weight-append d w v) at h
+    after-bound d w (done v a s) h = omega (arith, ap length (listing-append w v), length-append (listing w) (listing v))
     after-bound d w (refused r) h = tt
 
-    go-bound : {d : ℕ} {w : List Record} {t : State} (p : Answer State (Unit {0})) → ((d : ℕ) → OnS n hi 6 6 d t → Bounded n d p) → Post (λ _. OnS n hi 6 6) d (done w true t) → Bounded n d (after w p)
-    go-bound p again (holds {w = w} q) = after-bound _ w p (again _ q)
+    go-bound : {d : ℕ} {w : List Record} {t : State} (p : Answer State (Unit {0})) → ((d : ℕ) → OnS n hi 6 6 d t → Bounded n d p) → Post Writes (λ _. OnS n hi 6 6) d (done w true t) → Bounded n d (after w p)
+    go-bound {d} p again (holds {w = w} r q) = after-bound d w p (rw (run-weight r) at (again _ q))
 
     reads-bound : {s : State} {p : Answer State (Unit {0})} → Reads table s p → (d : ℕ) → OnS n hi 6 6 d s → Bounded n d p
     reads-bound (Reads.stop {s} z) d h = stop-bound (rw z at (statement-on table proper n hi .law d s h))

@@ -18,88 +18,20 @@ use Rattle.rules.specs.Expressions.{operatorOf, leftLevel, rightLevel, p
 use Rattle.rules.specs.Operands.{immediateOrFar, alone, isIndex, isBase, paired, plusIndex, second, registersAhead, displacement, close, override, isWord, isNumber, memory, operandSized, operand, Operands, operands}
 use Rattle.rules.specs.Statements.{label, literalOf, literals}
 use Rattle.rules.proofs.Progress.{name-inside, word-inside}
+use Rattle.rules.proofs.Hoare.{Run, nil, cons, Post, holds, fails, Triple, now, after-post, bind, andThen, whether, perhaps, returns, refuses, writes, before, behind, arrive-post, attempts, askAhead, askKind, askPassed, askLeft, here-fails}
 use Rattle.rules.proofs.Shape.{Holds, Sound, Chain, chain-low}
-use Rattle.rules.proofs.Records.{listing-append}
 
 abbrev pub weight : List Record → ℕ
 weight w = length (listing w)
 
-pub data Post {S A : Type 0} (Q : A → ℕ → S → Type 0) (d : ℕ) : Answer S A → Type 0 where
-  holds : {w : List Record} {a : A} {s : S} → Q a (d + weight w) s → Post Q d (done w a s)
-  fails : {r : Refusal} → Post Q d (refused r)
+-- One record: its bytes are written.
+pub record Writes (d : ℕ) (r : Record) (d′ : ℕ) : Type 0 where
+  pub sum : d′ ≡ d + length (encode r)
 
-pub record Triple {S A : Type 0} (P : ℕ → S → Type 0) (m : Reader S A) (Q : A → ℕ → S → Type 0) : Type 0 where
-  pub law : (d : ℕ) (s : S) → P d s → Post Q d (m s)
-
-pub weight-append : (d : ℕ) (w v : List Record) → d + weight w + weight v ≡ d + weight (w ++ v)
-weight-append d w v = omega (arith, ap length (listing-append w v), length-append (listing w) (listing v))
-
-weight-nil : (d : ℕ) → d + weight [] ≡ d
+pub run-weight : {d d′ : ℕ} {w : List Record} → Run Writes d w d′ → d′ ≡ d + weight w
 unfolding listing
-weight-nil d = omega arith
-
-module _ {S : Type 0} where
-  pub after-post : {A : Type 0} {Q : A → ℕ → S → Type 0} {d : ℕ} (w : List Record) {p : Answer S A} → Post Q (d + weight w) p → Post Q d (after w p)
-  unfolding after
-  after-post {Q = Q} {d} w (holds {w = v} {a} {s} q) = holds (rw (weight-append d w v) at q)
-  after-post w fails = fails
-
-  pub plain-post : {A : Type 0} {Q : A → ℕ → S → Type 0} {d : ℕ} {p : Answer S A} → Post Q d p → Post Q d (after [] p)
-  plain-post {d = d} h = after-post [] (rw (weight-nil d) h)
-
-  pub thence-post : {A B : Type 0} {Q : A → ℕ → S → Type 0} {R : B → ℕ → S → Type 0} {d : ℕ} (f : A → Reader S B) → ((a : A) (d : ℕ) (s : S) → Q a d s → Post R d (f a s))
-      → {p : Answer S A} → Post Q d p → Post R d (thence p f)
-  unfolding thence
-  thence-post {d = d} f e (holds {w = w} {a} {s} q) = after-post w (e a (d + weight w) s q)
-  thence-post f e fails = fails
-
-  pub bind : {A B : Type 0} {P : ℕ → S → Type 0} {Q : A → ℕ → S → Type 0} {R : B → ℕ → S → Type 0} {m : Reader S A} {f : A → Reader S B}
-      → Triple P m Q → ((a : A) → Triple (Q a) (f a) R) → Triple P (m >>= f) R
-  unfolding _>>=_
-  bind {m = m} {f} p e = record { law = λ d s h. thence-post f (λ a d′ s′ q. e a .law d′ s′ q) (p .law d s h) }
-
-  pub andThen : {A B : Type 0} {P : ℕ → S → Type 0} {Q : A → ℕ → S → Type 0} {R : B → ℕ → S → Type 0} {m : Reader S A} {f : Reader S B}
-      → Triple P m Q → ((a : A) → Triple (Q a) f R) → Triple P (m >> f) R
-  unfolding _>>_ _>>=_
-  andThen {m = m} {f} p e = record { law = λ d s h. thence-post (λ _. f) (λ a d′ s′ q. e a .law d′ s′ q) (p .law d s h) }
-
-  pub whether : {A : Type 0} {P : ℕ → S → Type 0} {Q : A → ℕ → S → Type 0} {m m′ : Reader S A} (c : Bool) → (c ≡ true → Triple P m Q) → (c ≡ false → Triple P m′ Q) → Triple P (if c then m else m′) Q
-  whether true p q = p refl
-  whether false p q = q refl
-
-  pub perhaps : {A B : Type 0} {P : ℕ → S → Type 0} {Q : A → ℕ → S → Type 0} {m : Reader S A} {f : B → Reader S A} (o : Option B) → Triple P m Q → ((b : B) → o ≡ some b → Triple P (f b) Q)
-      → Triple P (maybe o m f) Q
-  perhaps none p q = p
-  perhaps (some b) p q = q b refl
-
-  pub now : {A : Type 0} {Q : A → ℕ → S → Type 0} {d : ℕ} {a : A} {s : S} → Q a d s → Post Q d (done [] a s)
-  now {d = d} {a} {s} q = holds {w = []} {a = a} {s = s} (rw (weight-nil d) q)
-
-  pub returns : {A : Type 0} {P : ℕ → S → Type 0} {Q : A → ℕ → S → Type 0} (a : A) → ((d : ℕ) (s : S) → P d s → Q a d s) → Triple P (return a) Q
-  unfolding return
-  returns a h = record { law = λ d s p. now (h d s p) }
-
-  pub refuses : {A : Type 0} {P : ℕ → S → Type 0} {Q : A → ℕ → S → Type 0} (r : Refusal) → Triple P (refuse r) Q
-  unfolding refuse
-  refuses r = record { law = λ d s p. fails }
-
-  pub before : {A : Type 0} {P P′ : ℕ → S → Type 0} {Q : A → ℕ → S → Type 0} {m : Reader S A} → ((d : ℕ) (s : S) → P′ d s → P d s) → Triple P m Q → Triple P′ m Q
-  before h p = record { law = λ d s q. p .law d s (h d s q) }
-
-  post-map : {A : Type 0} {Q R : A → ℕ → S → Type 0} → ((a : A) (d : ℕ) (s : S) → Q a d s → R a d s) → {d : ℕ} {p : Answer S A} → Post Q d p → Post R d p
-  post-map h {d} (holds {w = w} {a} {s} q) = holds (h a (d + weight w) s q)
-  post-map h fails = fails
-
-  pub behind : {A : Type 0} {P : ℕ → S → Type 0} {Q R : A → ℕ → S → Type 0} {m : Reader S A} → ((a : A) (d : ℕ) (s : S) → Q a d s → R a d s) → Triple P m Q → Triple P m R
-  behind h p = record { law = λ d s q. post-map h (p .law d s q) }
-
-pub arrive-post : {S A : Type 0} {Q : A → ℕ → S → Type 0} {d : ℕ} (x : Lexeme) {p : Answer S A} → Post Q d p → Post Q d (arrive x p)
-unfolding arrive
-arrive-post {Q = Q} {d} x {p} h = go (refusedAs (x .kind))
-  where
-    go : (o : Option ℕ) → Post Q d (maybe o p (λ m. refused (at m (x .from) (x .to))))
-    go none = h
-    go (some m) = fails
+run-weight nil = omega arith
+run-weight (cons {r = r} {w} c g) = omega (arith, c .sum, run-weight g, length-append (encode r) (listing w))
 
 -- A number does not stand right behind a word.
 abbrev pub Spaced : List Lexeme → Type 0
@@ -158,45 +90,36 @@ module _ (n hi D : ℕ) (rest : List Lexeme) where
   pub on-less : {m m′ d : ℕ} {s : Line} → m′ ≤ m → On m d s → On m′ d s
   on-less {m} {m′} i h = record { paid = omega (arith, h .paid); chain = h .chain; spaced = h .spaced }
 
-  pub passedThen : {B : Type 0} {f : ℕ → Reader Line B} {P : ℕ → Line → Type 0} {R : B → ℕ → Line → Type 0} → ((t : ℕ) → Triple P (f t) R) → Triple P (passed >>= f) R
-  unfolding passed _>>=_ thence
-  passedThen e = record { law = λ d s h. plain-post (e (s .last) .law d s h) }
-
-  pub leftThen : {B : Type 0} {f : ℕ → Reader Line B} {P : ℕ → Line → Type 0} {R : B → ℕ → Line → Type 0} → ((t : ℕ) → Triple P (f t) R) → Triple P (left >>= f) R
-  unfolding left _>>=_ thence
-  leftThen e = record { law = λ d s h. plain-post (e (length (s .more)) .law d s h) }
-
-  pub here-fails : {A : Type 0} {P : ℕ → Line → Type 0} {R : A → ℕ → Line → Type 0} (k : ℕ) → Triple P (refuseHere k) R
-  unfolding refuseHere
-  here-fails k = record { law = λ d s h. fails }
+  passedThen : {B : Type 0} {f : ℕ → Reader Line B} {P : ℕ → Line → Type 0} {R : B → ℕ → Line → Type 0} → ((t : ℕ) → Triple Writes P (f t) R) → Triple Writes P (passed >>= f) R
+  passedThen e = askPassed λ t. before (λ d s h. h .1) (e t)
 
   module _ {m : ℕ} where
-    pub aheadThen : {B : Type 0} {f : Lexeme → Reader Line B} {R : B → ℕ → Line → Type 0} → ((x : Lexeme) → Sound hi x → Triple (Here x m) (f x) R) → Triple (On m) (ahead >>= f) R
-    unfolding ahead _>>=_ thence
-    aheadThen e = record { law = λ d s h. plain-post (e (s .here) (h .chain .1) .law d s (refl, h)) }
+    at-token : {B : Type 0} {f : Reader Line B} {R : B → ℕ → Line → Type 0} (x : Lexeme) → (Sound hi x → Triple Writes (Here x m) f R) → Triple Writes (Here x m) f R
+    at-token x e = record { law = λ d s h. e (rw (h .0) at (h .1 .chain .1)) .law d s h }
 
-    pub kindThen : {B : Type 0} (f : Kind → Reader Line B) {R : B → ℕ → Line → Type 0} → ((x : Lexeme) → Sound hi x → Triple (Here x m) (f (x .kind)) R) → Triple (On m) (kind >>= f) R
-    unfolding kind _>>=_ thence
-    kindThen f e = record { law = λ d s h. plain-post (e (s .here) (h .chain .1) .law d s (refl, h)) }
+    aheadThen : {B : Type 0} {f : Lexeme → Reader Line B} {R : B → ℕ → Line → Type 0} → ((x : Lexeme) → Sound hi x → Triple Writes (Here x m) (f x) R) → Triple Writes (On m) (ahead >>= f) R
+    aheadThen e = askAhead λ x. at-token x (e x)
+
+    kindThen : {B : Type 0} (f : Kind → Reader Line B) {R : B → ℕ → Line → Type 0} → ((x : Lexeme) → Sound hi x → Triple Writes (Here x m) (f (x .kind)) R) → Triple Writes (On m) (kind >>= f) R
+    kindThen f e = askKind f λ x. at-token x (e x)
 
     -- whatever is read begins with a token
-    pub aheadFirst : {B : Type 0} {f : Reader Line B} {R : B → ℕ → Line → Type 0} → ((x : Lexeme) → Sound hi x → Triple (Here x m) f R) → Triple (On m) f R
+    pub aheadFirst : {B : Type 0} {f : Reader Line B} {R : B → ℕ → Line → Type 0} → ((x : Lexeme) → Sound hi x → Triple Writes (Here x m) f R) → Triple Writes (On m) f R
     aheadFirst e = record { law = λ d s h. e (s .here) (h .chain .1) .law d s (refl, h) }
 
-    pub aheadHere : {B : Type 0} (f : Lexeme → Reader Line B) {R : B → ℕ → Line → Type 0} (x : Lexeme) → Triple (Here x m) (f x) R → Triple (Here x m) (ahead >>= f) R
+    pub aheadHere : {B : Type 0} (f : Lexeme → Reader Line B) {R : B → ℕ → Line → Type 0} (x : Lexeme) → Triple Writes (Here x m) (f x) R → Triple Writes (Here x m) (ahead >>= f) R
     unfolding ahead _>>=_ thence
-    aheadHere f {R} x e = record { law = λ d s h. plain-post (subst (λ (y : Lexeme). Post R d (f y s)) (sym (h .0)) (e .law d s h)) }
+    aheadHere f {R} x e = record { law = λ d s h. after-post nil (subst (λ (y : Lexeme). Post Writes R d (f y s)) (sym (h .0)) (e .law d s h)) }
 
-    pub kindHere : {B : Type 0} (f : Kind → Reader Line B) {R : B → ℕ → Line → Type 0} (x : Lexeme) → Triple (Here x m) (f (x .kind)) R → Triple (Here x m) (kind >>= f) R
+    pub kindHere : {B : Type 0} (f : Kind → Reader Line B) {R : B → ℕ → Line → Type 0} (x : Lexeme) → Triple Writes (Here x m) (f (x .kind)) R → Triple Writes (Here x m) (kind >>= f) R
     unfolding kind _>>=_ thence
-    kindHere f {R} x e = record { law = λ d s h. plain-post (subst (λ (y : Lexeme). Post R d (f (y .kind) s)) (sym (h .0)) (e .law d s h)) }
+    kindHere f {R} x e = record { law = λ d s h. after-post nil (subst (λ (y : Lexeme). Post Writes R d (f (y .kind) s)) (sym (h .0)) (e .law d s h)) }
 
-    pub writes : (r : Record) (k : ℕ) → length (encode r) ≤ k → Triple (On (m + k)) (write r) (λ _. On m)
-    unfolding write listing
-    writes r k i = record { law = λ d s h. holds {w = r ∷ []} {s = s} (record { paid = omega (arith, h .paid, length-append (encode r) []); chain = h .chain; spaced = h .spaced }) }
+    pub pays : (r : Record) (k : ℕ) → length (encode r) ≤ k → Triple Writes (On (m + k)) (write r) (λ _. On m)
+    pays r k i = writes r λ d s h. (d + length (encode r), record { sum = refl }, record { paid = omega (arith, h .paid); chain = h .chain; spaced = h .spaced })
 
     -- past x, of at least k bytes
-    step-on : (x : Lexeme) (k d : ℕ) (ys : List Lexeme) (s : Line) → k + x .from ≤ x .to → s .more ≡ ys → Here x m d s → Post (λ _. Wide (x .kind) (m + 18 * k)) d (step ys s)
+    step-on : (x : Lexeme) (k d : ℕ) (ys : List Lexeme) (s : Line) → k + x .from ≤ x .to → s .more ≡ ys → Here x m d s → Post Writes (λ _. Wide (x .kind) (m + 18 * k)) d (step ys s)
     unfolding step isLineEnd isNumber
     step-on x k d [] s i e (q, h) =
         let c : Chain n hi (s .here .to) rest = rw e at (h .chain .2) in
@@ -208,22 +131,24 @@ module _ (n hi D : ℕ) (rest : List Lexeme) where
         let z : Spaced (s .here ∷ y ∷ (ys ++ rest)) = rw e at (h .spaced) in
         let f : k + s .here .from ≤ s .here .to = rw q i in
         let g : s .here .to ≤ y .from = c .0 in
-        arrive-post y (now (record { paid = omega (arith, h .paid); chain = chain-low n hi (s .here .to) 0 (y ∷ (ys ++ rest)) zero-le c; spaced = z .1 },
-          λ w v. let u : s .here .to < y .from = z .0 (ap (λ (x : Lexeme). isWord (x .kind)) q ∙ w) v in omega (arith, h .paid)))
+        arrive-post y (now (
+          record { paid = omega (arith, h .paid); chain = chain-low n hi (s .here .to) 0 (y ∷ (ys ++ rest)) zero-le c; spaced = z .1 },
+          λ w v. let u : s .here .to < y .from = z .0 (ap (λ (x : Lexeme). isWord (x .kind)) q ∙ w) v in omega (arith, h .paid),
+        ))
 
-    pub nexts : (x : Lexeme) (k : ℕ) → k + x .from ≤ x .to → Triple (Here x m) next (λ _. On (m + 18 * k))
+    pub nexts : (x : Lexeme) (k : ℕ) → k + x .from ≤ x .to → Triple Writes (Here x m) next (λ _. On (m + 18 * k))
     unfolding next
     nexts x k i = behind (λ _ d s h. h .0) (record { law = λ d s h. step-on x k d (s .more) s i refl h })
 
-    pub wide-nexts : (x : Lexeme) (k : ℕ) → k + x .from ≤ x .to → Triple (Here x m) next (λ _. Wide (x .kind) (m + 18 * k))
+    pub wide-nexts : (x : Lexeme) (k : ℕ) → k + x .from ≤ x .to → Triple Writes (Here x m) next (λ _. Wide (x .kind) (m + 18 * k))
     unfolding next
     wide-nexts x k i = record { law = λ d s h. step-on x k d (s .more) s i refl h }
 
     -- past x, which ends no line
-    past : (x : Lexeme) → Sound hi x → isLineEnd (x .kind) ≡ false → Triple (Here x m) next (λ _. On (m + 18))
+    past : (x : Lexeme) → Sound hi x → isLineEnd (x .kind) ≡ false → Triple Writes (Here x m) next (λ _. On (m + 18))
     past x f e = behind (λ _ d s h. on-less (omega arith) h) (nexts x 1 (omega (arith, f .strict e .0)))
 
-  pub expects : {m : ℕ} (a : Char) (k : ℕ) → Triple (On m) (expect a k) (λ _. On m)
+  pub expects : {m : ℕ} (a : Char) (k : ℕ) → Triple Writes (On m) (expect a k) (λ _. On m)
   unfolding expect
   expects a k = kindThen _ λ x f. whether (isMark a (x .kind)) (λ e. behind (λ _ d s h. on-less (omega arith) h) (past x f (mark-inside a (x .kind) e))) (λ e. here-fails k)
 
@@ -243,19 +168,19 @@ module _ (n hi D : ℕ) (rest : List Lexeme) where
   unfolding extra
   extra-is k e = rw e
 
-  atomOf-on : {m : ℕ} (k : Kind) (x : Lexeme) → x .kind ≡ k → Sound hi x → Triple (Here x m) (atomOf k x) (λ _. On (m + 4 + extra k))
+  atomOf-on : {m : ℕ} (k : Kind) (x : Lexeme) → x .kind ≡ k → Sound hi x → Triple Writes (Here x m) (atomOf k x) (λ _. On (m + 4 + extra k))
   unfolding atomOf extra isNumber isLineEnd character encode fields field bytes
-  atomOf-on {m} (number v) x e f = behind (λ _ d s h. on-less (omega arith) h) (andThen (past x f (ap isLineEnd e)) (λ _. before (λ d s h. on-less (omega arith) h) (writes {m = m + 4} (VC (x .from) (x .to) v) 14 (le-refl 14))))
+  atomOf-on {m} (number v) x e f = behind (λ _ d s h. on-less (omega arith) h) (andThen (past x f (ap isLineEnd e)) (λ _. before (λ d s h. on-less (omega arith) h) (pays {m = m + 4} _ 14 (le-refl 14))))
   atomOf-on {m} (quoted false g) x e f = here-fails 16
   atomOf-on {m} (quoted true []) x e f = here-fails 17
   atomOf-on {m} (quoted true (c ∷ [])) x e f =
       let z : Holds (quoted true (c ∷ [])) (x .from) (x .to) = rw e at (f .holds) in
-      behind (λ _ d s h. on-less (omega arith) h) (andThen (nexts x 2 (z .0)) (λ _. before (λ d s h. on-less (omega arith) h) (writes {m = m + 8} (VC (x .from) (x .to) c) 14 (le-refl 14))))
+      behind (λ _ d s h. on-less (omega arith) h) (andThen (nexts x 2 (z .0)) (λ _. before (λ d s h. on-less (omega arith) h) (pays {m = m + 8} _ 14 (le-refl 14))))
   atomOf-on {m} (quoted true (c ∷ d ∷ g)) x e f = here-fails 17
-  atomOf-on {m} (word w) x e f = behind (λ _ d s h. on-less (omega arith) h) (andThen (past x f (ap isLineEnd e)) (λ _. before (λ d s h. on-less (omega arith) h) (writes {m = m + 8} (VL (x .from) (x .to)) 10 (le-refl 10))))
+  atomOf-on {m} (word w) x e f = behind (λ _ d s h. on-less (omega arith) h) (andThen (past x f (ap isLineEnd e)) (λ _. before (λ d s h. on-less (omega arith) h) (pays {m = m + 8} _ 10 (le-refl 10))))
   atomOf-on {m} (mark c) x e f = whether (is "$" c) (λ _. andThen (past x f (ap isLineEnd e)) (λ _. kindThen _ λ y g. whether (isMark "$" (y .kind))
-      (λ i. andThen (past y g (mark-inside "$" (y .kind) i)) (λ _. before (λ d s h. on-less (omega arith) h) (writes {m = m + 4 + 4} (VS (x .from) (x .to)) 10 (le-refl 10))))
-      (λ _. before (λ d s h. on-less (omega arith) (h .1)) (writes {m = m + 4 + 4} (VI (x .from) (x .to)) 10 (le-refl 10))))) (λ _. here-fails 21)
+      (λ i. andThen (past y g (mark-inside "$" (y .kind) i)) (λ _. before (λ d s h. on-less (omega arith) h) (pays {m = m + 4 + 4} _ 10 (le-refl 10))))
+      (λ _. before (λ d s h. on-less (omega arith) (h .1)) (pays {m = m + 4 + 4} _ 10 (le-refl 10))))) (λ _. here-fails 21)
   atomOf-on newline x e f = here-fails 21
   atomOf-on blank x e f = here-fails 21
   atomOf-on comment x e f = here-fails 21
@@ -263,153 +188,143 @@ module _ (n hi D : ℕ) (rest : List Lexeme) where
   atomOf-on end x e f = here-fails 21
   atomOf-on (bad b) x e f = here-fails 21
 
-  module _ {inner : ℕ → Reader Line (Unit {0})} (each : (m level : ℕ) → Triple (On m) (inner level) (λ _. On (m + 4))) where
-    primary-on : (m : ℕ) (x : Lexeme) → Sound hi x → Triple (Here x m) (primary inner) (λ _. On (m + 4 + extra (x .kind)))
+  module _ {inner : ℕ → Reader Line (Unit {0})} (each : (m level : ℕ) → Triple Writes (On m) (inner level) (λ _. On (m + 4))) where
+    primary-on : (m : ℕ) (x : Lexeme) → Sound hi x → Triple Writes (Here x m) (primary inner) (λ _. On (m + 4 + extra (x .kind)))
     unfolding primary atom encode fields field bytes
     primary-on m x f = aheadHere _ x (whether (isMark "(" (x .kind))
         (λ e. behind (λ _ d s h. on-less (omega (arith, extra-le (x .kind))) h) (andThen (andThen (past x f (mark-inside "(" (x .kind) e)) (λ _. each (m + 18) 0)) (λ _. expects ")" 14)))
         (λ _. perhaps (operatorOf (x .kind)) (aheadHere _ x (atomOf-on (x .kind) x refl f))
-          (λ op e. behind (λ _ d s h. on-less (omega (arith, extra-le (x .kind))) h) (andThen (past x f (operator-inside (x .kind) op e)) (λ _. andThen (whether (ltb op 2) (λ _. each (m + 18) prefixLevel) (λ _. refuses (nowhere 22)))
-            (λ _. passedThen λ t. before (λ d s h. on-less (omega arith) h) (writes {m = m + 8} (PF (x .from) t op) 14 (le-refl 14))))))))
+        (λ op e. behind (λ _ d s h. on-less (omega (arith, extra-le (x .kind))) h) (andThen (past x f (operator-inside (x .kind) op e)) (λ _. andThen (whether (ltb op 2) (λ _. each (m + 18) prefixLevel) (λ _. refuses _))
+        (λ _. passedThen λ t. before (λ d s h. on-less (omega arith) h) (pays {m = m + 8} _ 14 (le-refl 14))))))))
 
-    infixes-on : (m k level p : ℕ) → Triple (On m) (infixes k inner level p) (λ _. On m)
+    infixes-on : (m k level p : ℕ) → Triple Writes (On m) (infixes k inner level p) (λ _. On m)
     unfolding infixes encode fields field bytes
     infixes-on m zero level p = returns tt (λ d s h. h)
     infixes-on m (suc k) level p = kindThen _ λ x f. perhaps (operatorOf (x .kind)) (returns tt (λ d s h. h .1)) λ op e.
         whether (ltb (leftLevel op) level) (λ _. returns tt (λ d s h. h .1)) (λ _. andThen (past x f (operator-inside (x .kind) op e)) (λ _. andThen (each (m + 18) (rightLevel op))
-          (λ _. passedThen λ t. andThen (before (λ d s h. on-less (omega arith) h) (writes {m = m} (IN p t op) 14 (le-refl 14))) (λ _. infixes-on m k level p))))
+        (λ _. passedThen λ t. andThen (before (λ d s h. on-less (omega arith) h) (pays {m = m} _ 14 (le-refl 14))) (λ _. infixes-on m k level p))))
 
-  expr-on : (k m level : ℕ) → Triple (On m) (expr k level) (λ _. On (m + 4))
+  expr-on : (k m level : ℕ) → Triple Writes (On m) (expr k level) (λ _. On (m + 4))
   unfolding expr
   expr-on zero m level = here-fails 3
-  expr-on (suc k) m level = aheadThen λ x f. behind (λ _ d s h. on-less (omega arith) h) (andThen (primary-on (expr-on k) m x f) (λ _. leftThen λ j. infixes-on (expr-on k) (m + 4 + extra (x .kind)) j level (x .from)))
+  expr-on (suc k) m level = aheadThen λ x f. behind (λ _ d s h. on-less (omega arith) h) (andThen (primary-on (expr-on k) m x f) (λ _. askLeft λ j. infixes-on (expr-on k) (m + 4 + extra (x .kind)) j level (x .from)))
 
-  pub expression-on : (m : ℕ) → Triple (On m) expression (λ _. On (m + 4))
+  pub expression-on : (m : ℕ) → Triple Writes (On m) expression (λ _. On (m + 4))
   unfolding expression
   expression-on m = expr-on 32 m 0
 
-  expr-first : (k m level : ℕ) (x : Lexeme) → Sound hi x → Triple (Here x m) (expr (suc k) level) (λ _. On (m + 4 + extra (x .kind)))
+  expr-first : (k m level : ℕ) (x : Lexeme) → Sound hi x → Triple Writes (Here x m) (expr (suc k) level) (λ _. On (m + 4 + extra (x .kind)))
   unfolding expr
-  expr-first k m level x f = aheadHere _ x (andThen (primary-on (expr-on k) m x f) (λ _. leftThen λ j. infixes-on (expr-on k) (m + 4 + extra (x .kind)) j level (x .from)))
+  expr-first k m level x f = aheadHere _ x (andThen (primary-on (expr-on k) m x f) (λ _. askLeft λ j. infixes-on (expr-on k) (m + 4 + extra (x .kind)) j level (x .from)))
 
-  expression-first : (m : ℕ) (x : Lexeme) → Sound hi x → Triple (Here x m) expression (λ _. On (m + 4 + extra (x .kind)))
+  expression-first : (m : ℕ) (x : Lexeme) → Sound hi x → Triple Writes (Here x m) expression (λ _. On (m + 4 + extra (x .kind)))
   unfolding expression
   expression-first m x f = expr-first 31 m 0 x f
 
   -- An operand: 6 more than its tokens pay, or 2 where it does not begin with a number.
-  immediate-on : (m : ℕ) (x : Lexeme) → Sound hi x → Triple (Here x (m + 6)) immediateOrFar (λ _. On (m + extra (x .kind)))
+  immediate-on : (m : ℕ) (x : Lexeme) → Sound hi x → Triple Writes (Here x (m + 6)) immediateOrFar (λ _. On (m + extra (x .kind)))
   unfolding immediateOrFar encode fields field bytes
   immediate-on m x f = aheadHere _ x (andThen (expression-first (m + 6) x f) (λ _. kindThen _ λ y g. whether (isMark ":" (y .kind))
-      (λ e. andThen (past y g (mark-inside ":" (y .kind) e)) (λ _. andThen (expression-on _) (λ _. passedThen λ t. before (λ d s h. on-less (omega arith) h) (writes {m = m + extra (x .kind)} (OF (x .from) t) 10 (le-refl 10)))))
-      (λ _. passedThen λ t. before (λ d s h. on-less (omega arith) (h .1)) (writes {m = m + extra (x .kind)} (OI (x .from) t) 10 (le-refl 10)))))
-
-  orBack-post : {A : Type 0} {Q : Option A → ℕ → Line → Type 0} {R : A → ℕ → Line → Type 0} {d : ℕ} (a : A) (s : Line) → ((b : A) (d : ℕ) (t : Line) → Q (some b) d t → R b d t) → R a d s
-      → {p : Answer Line (Option A)} → Post Q d p → Post R d (orBack p a s)
-  unfolding orBack
-  orBack-post a s e h (holds {a = none} q) = now h
-  orBack-post {d = d} a s e h (holds {w = w} {a = some b} {s = t} q) = holds {w = w} {a = b} {s = t} (e b (d + weight w) t q)
-  orBack-post a s e h fails = fails
-
-  attempts : {A : Type 0} {P : ℕ → Line → Type 0} {Q : Option A → ℕ → Line → Type 0} {R : A → ℕ → Line → Type 0} {k : Reader Line (Option A)} (a : A)
-      → ((b : A) (d : ℕ) (t : Line) → Q (some b) d t → R b d t) → ((d : ℕ) (s : Line) → P d s → R a d s) → Triple P k Q → Triple P (attempt k a) R
-  unfolding attempt
-  attempts a e h p = record { law = λ d s q. orBack-post a s e (h d s q) (p .law d s q) }
+      (λ e. andThen (past y g (mark-inside ":" (y .kind) e)) (λ _. andThen (expression-on _) (λ _. passedThen λ t. before (λ d s h. on-less (omega arith) h) (pays {m = m + extra (x .kind)} _ 10 (le-refl 10)))))
+      (λ _. passedThen λ t. before (λ d s h. on-less (omega arith) (h .1)) (pays {m = m + extra (x .kind)} _ 10 (le-refl 10)))))
 
   abbrev Reg : Option ℕ → ℕ → ℕ → Line → Type 0
   Reg none m = On m
   Reg (some e) m = On (m + 18)
 
-  plusIndex-on : (m f r : ℕ) (x : Lexeme) → Sound hi x → isLineEnd (x .kind) ≡ false → Triple (Here x m) (plusIndex f r) (λ _. On m)
+  plusIndex-on : (m f r : ℕ) (x : Lexeme) → Sound hi x → isLineEnd (x .kind) ≡ false → Triple Writes (Here x m) (plusIndex f r) (λ _. On m)
   unfolding plusIndex
   plusIndex-on m f r x g e = andThen (past x g e) (λ _. aheadThen λ y u. perhaps (nameIn registers (y .kind)) (returns none (λ d s h. on-less (omega arith) (h .1))) λ q i.
-      whether (isIndex q) (λ _. andThen (past y u (name-inside registers (y .kind) q i)) (λ _. passedThen λ t. whether (isIndex r) (λ _. refuses (at 33 f t)) (λ _. returns (some (paired r q)) (λ d s h. on-less (omega arith) h))))
-        (λ _. refuses (encoding f (y .to) r q)))
+      whether (isIndex q) (λ _. andThen (past y u (name-inside registers (y .kind) q i)) (λ _. passedThen λ t. whether (isIndex r) (λ _. refuses _) (λ _. returns (some (paired r q)) (λ d s h. on-less (omega arith) h))))
+      (λ _. refuses _))
 
-  second-on : (m f r : ℕ) → Triple (On m) (second f r) (λ _. On m)
+  second-on : (m f r : ℕ) → Triple Writes (On m) (second f r) (λ _. On m)
   unfolding second
   second-on m f r = kindThen _ λ x g. whether (isMark "+" (x .kind))
       (λ e. attempts (alone r) (λ b d t h. h) (λ d s h. h .1) (plusIndex-on m f r x g (mark-inside "+" (x .kind) e))) (λ _. returns (alone r) (λ d s h. h .1))
 
-  registersAhead-on : (m : ℕ) → Triple (On m) registersAhead (λ o. Reg o m)
+  registersAhead-on : (m : ℕ) → Triple Writes (On m) registersAhead (λ o. Reg o m)
   unfolding registersAhead
   registersAhead-on m = aheadThen λ x g. passedThen λ t. perhaps (nameIn registers (x .kind)) (returns none (λ d s h. h .1)) λ r e.
       whether (isBase r || isIndex r) (λ _. andThen (past x g (name-inside registers (x .kind) r e)) (λ _. bind (second-on (m + 18) (x .from) r) λ q. returns (some q) (λ d s h. h)))
-        (λ _. refuses (encoding (x .from) t r 255))
+      (λ _. refuses _)
 
-  displacement-on : (m : ℕ) → Triple (On m) displacement (λ _. On m)
+  displacement-on : (m : ℕ) → Triple Writes (On m) displacement (λ _. On m)
   unfolding displacement
   displacement-on m = kindThen _ λ x g. whether (isMark "]" (x .kind)) (λ _. returns 0 (λ d s h. h .1))
       (λ _. before (λ d s h. h .1) (andThen (expression-on m) (λ _. returns 1 (λ d s h. on-less (omega arith) h))))
 
-  close-on : (m f size segment : ℕ) (e : Option ℕ) (has : ℕ) → Triple (Reg e (m + 24)) (close f size segment e has) (λ _. On (m + 4))
+  close-on : (m f size segment : ℕ) (e : Option ℕ) (has : ℕ) → Triple Writes (Reg e (m + 24)) (close f size segment e has) (λ _. On (m + 4))
   unfolding close encode fields field bytes
-  close-on m f size segment none has = andThen (expects "]" 13) (λ _. passedThen λ t. whether (eqb has 0) (λ _. refuses (at 32 f t)) (λ _. before (λ d s h. on-less (omega arith) h) (writes {m = m + 4} (OD f t size segment) 18 (le-refl 18))))
-  close-on m f size segment (some e) has = andThen (expects "]" 13) (λ _. passedThen λ t. before (λ d s h. on-less (omega arith) h) (writes {m = m + 4} (OX f t e has size segment) 26 (le-refl 26)))
+  close-on m f size segment none has = andThen (expects "]" 13) (λ _. passedThen λ t. whether (eqb has 0) (λ _. refuses _) (λ _. before (λ d s h. on-less (omega arith) h) (pays {m = m + 4} _ 18 (le-refl 18))))
+  close-on m f size segment (some e) has = andThen (expects "]" 13) (λ _. passedThen λ t. before (λ d s h. on-less (omega arith) h) (pays {m = m + 4} _ 26 (le-refl 26)))
 
-  override-on : (m : ℕ) → Triple (On m) override (λ _. On m)
+  override-on : (m : ℕ) → Triple Writes (On m) override (λ _. On m)
   unfolding override
   override-on m = kindThen _ λ x g. perhaps (nameIn segments (x .kind)) (returns 0 (λ d s h. h .1)) λ z e.
       andThen (past x g (name-inside segments (x .kind) z e)) (λ _. andThen (expects ":" 12) (λ _. returns (suc z) (λ d s h. on-less (omega arith) h)))
 
-  displacement-reg : (o : Option ℕ) (m : ℕ) → Triple (Reg o m) displacement (λ _. Reg o m)
+  displacement-reg : (o : Option ℕ) (m : ℕ) → Triple Writes (Reg o m) displacement (λ _. Reg o m)
   displacement-reg none m = displacement-on m
   displacement-reg (some e) m = displacement-on (m + 18)
 
-  memory-on : (m size : ℕ) (x : Lexeme) → Sound hi x → isLineEnd (x .kind) ≡ false → Triple (Here x (m + 6)) (memory size) (λ _. On (m + 4))
+  memory-on : (m size : ℕ) (x : Lexeme) → Sound hi x → isLineEnd (x .kind) ≡ false → Triple Writes (Here x (m + 6)) (memory size) (λ _. On (m + 4))
   unfolding memory
   memory-on m size x f e = aheadHere _ x (andThen (past x f e) (λ _. kindThen _ λ y g. before (λ d s h. on-less {m = m + 6 + 18} {m′ = m + 24} (omega arith) (h .1)) (whether (isWord (y .kind))
       (λ _. bind (override-on (m + 24)) λ z. bind (registersAhead-on (m + 24)) λ q. bind (displacement-reg q (m + 24)) λ has. close-on m (x .from) size z q has)
       (λ _. whether (isNumber (y .kind)) (λ _. andThen (expression-on (m + 24)) (λ _. before (λ d s h. on-less (omega arith) h) (close-on m (x .from) size 0 none 1))) (λ _. here-fails 24)))))
 
-  operandSized-on : (k m size : ℕ) (x : Lexeme) → Sound hi x → Triple (Here x (m + 6)) (operandSized k size) (λ _. On (m + extra (x .kind)))
+  operandSized-on : (k m size : ℕ) (x : Lexeme) → Sound hi x → Triple Writes (Here x (m + 6)) (operandSized k size) (λ _. On (m + extra (x .kind)))
   unfolding operandSized encode fields field bytes
   operandSized-on zero m size x f = immediate-on m x f
   operandSized-on (suc k) m size x f = aheadHere _ x (whether (isMark "[" (x .kind)) (λ e. behind (λ _ d s h. on-less (omega (arith, extra-le (x .kind))) h) (memory-on m size x f (mark-inside "[" (x .kind) e)))
       (λ _. perhaps (nameIn registers (x .kind)) (perhaps (nameIn segments (x .kind)) (perhaps (nameIn sizes (x .kind)) (immediate-on m x f)
-        (λ q e. andThen (past x f (name-inside sizes (x .kind) q e)) (λ _. aheadFirst λ y g. behind (λ _ d s h. on-less (omega (arith, extra-le (x .kind))) h) (before (λ d s h. (h .0, on-less {m′ = m + 18 + 6} (omega arith) (h .1))) (operandSized-on k (m + 18) (suc q) y g)))))
-        (λ q e. andThen (past x f (name-inside segments (x .kind) q e)) (λ _. before (λ d s h. on-less (omega (arith, extra-le (x .kind))) h) (writes {m = m + extra (x .kind)} (OS (x .from) (x .to) q) 14 (le-refl 14)))))
-        (λ q e. andThen (past x f (name-inside registers (x .kind) q e)) (λ _. before (λ d s h. on-less (omega (arith, extra-le (x .kind))) h) (writes {m = m + extra (x .kind)} (OR (x .from) (x .to) q) 14 (le-refl 14))))))
+      (λ q e. andThen (past x f (name-inside sizes (x .kind) q e)) (λ _. aheadFirst λ y g. behind (λ _ d s h. on-less (omega (arith, extra-le (x .kind))) h) (before (λ d s h. (h .0, on-less {m′ = m + 18 + 6} (omega arith) (h .1))) (operandSized-on k (m + 18) (suc q) y g)))))
+      (λ q e. andThen (past x f (name-inside segments (x .kind) q e)) (λ _. before (λ d s h. on-less (omega (arith, extra-le (x .kind))) h) (pays {m = m + extra (x .kind)} _ 14 (le-refl 14)))))
+      (λ q e. andThen (past x f (name-inside registers (x .kind) q e)) (λ _. before (λ d s h. on-less (omega (arith, extra-le (x .kind))) h) (pays {m = m + extra (x .kind)} _ 14 (le-refl 14))))))
 
-  operand-on : (m : ℕ) (x : Lexeme) → Sound hi x → Triple (Here x (m + 6)) operand (λ _. On (m + extra (x .kind)))
+  operand-on : (m : ℕ) (x : Lexeme) → Sound hi x → Triple Writes (Here x (m + 6)) operand (λ _. On (m + extra (x .kind)))
   unfolding operand
-  operand-on m x f = leftThen λ k. operandSized-on (suc k) m 0 x f
+  operand-on m x f = askLeft λ k. operandSized-on (suc k) m 0 x f
 
   -- The first operand behind a word: with the byte before a number.
-  first-on : (m : ℕ) (k : Kind) → isWord k ≡ true → Triple (Wide k (m + 36)) operand (λ _. On (m + 34))
+  first-on : (m : ℕ) (k : Kind) → isWord k ≡ true → Triple Writes (Wide k (m + 36)) operand (λ _. On (m + 34))
   unfolding extra
   first-on m k w = record { law = λ d s h. go d s h (isNumber (s .here .kind)) refl }
     where
-      go : (d : ℕ) (s : Line) → Wide k (m + 36) d s → (b : Bool) → isNumber (s .here .kind) ≡ b → Post (λ _. On (m + 34)) d (operand s)
+      go : (d : ℕ) (s : Line) → Wide k (m + 36) d s → (b : Bool) → isNumber (s .here .kind) ≡ b → Post Writes (λ _. On (m + 34)) d (operand s)
       go d s h true e = behind (λ _ d s q. on-less {m′ = m + 34} (omega arith) q) (operand-on (m + 48) (s .here) (h .0 .chain .1)) .law d s
-        (refl, record { paid = omega (arith, h .1 w e); chain = h .0 .chain; spaced = h .0 .spaced })
+          (refl, record { paid = omega (arith, h .1 w e); chain = h .0 .chain; spaced = h .0 .spaced })
       go d s h false e = let i : extra (s .here .kind) ≡ 4 = extra-is (s .here .kind) e in behind (λ _ d s q. on-less {m′ = m + 34} (omega arith) q) (operand-on (m + 30) (s .here) (h .0 .chain .1)) .law d s
-        (refl, on-less (omega arith) (h .0))
+          (refl, on-less (omega arith) (h .0))
 
-  pub operands-on : (m : ℕ) (k : Kind) → isWord k ≡ true → Triple (Wide k (m + 36)) operands (λ _. On (m + 32))
+  pub operands-on : (m : ℕ) (k : Kind) → isWord k ≡ true → Triple Writes (Wide k (m + 36)) operands (λ _. On (m + 32))
   unfolding operands ahead _>>=_ thence
-  operands-on m k w = record { law = λ d s h. plain-post (passedThen {P = Wide k (m + 36)} (λ l. whether (isLineEnd (s .here .kind))
-      (λ _. returns (record { count = 0; from = l; to = l }) (λ d s h. on-less (omega arith) (h .0)))
-      (λ _. andThen (first-on m k w) (λ _. kindThen _ λ y g. whether (isLineEnd (y .kind))
+  operands-on m k w = record {
+    law = λ d s h. after-post nil (passedThen {P = Wide k (m + 36)} (λ l. whether (isLineEnd (s .here .kind))
+        (λ _. returns (record { count = 0; from = l; to = l }) (λ d s h. on-less (omega arith) (h .0)))
+        (λ _. andThen (first-on m k w) (λ _. kindThen _ λ y g. whether (isLineEnd (y .kind))
         (λ _. passedThen λ t. returns (record { count = 1; from = s .here .from; to = t }) (λ d s h. on-less (omega arith) (h .1)))
         (λ _. whether (isMark "," (y .kind))
-          (λ e. andThen (past y g (mark-inside "," (y .kind) e)) (λ _. aheadFirst λ z u. andThen (before (λ d s h. (h .0, on-less {m′ = m + 32 + 6} (omega arith) (h .1))) (operand-on (m + 32) z u))
-            (λ _. passedThen λ t. returns (record { count = 2; from = s .here .from; to = t }) (λ d s h. on-less (omega arith) h))))
-          (λ _. here-fails 11))))) .law d s h) }
+        (λ e. andThen (past y g (mark-inside "," (y .kind) e)) (λ _. aheadFirst λ z u. andThen (before (λ d s h. (h .0, on-less {m′ = m + 32 + 6} (omega arith) (h .1))) (operand-on (m + 32) z u))
+        (λ _. passedThen λ t. returns (record { count = 2; from = s .here .from; to = t }) (λ d s h. on-less (omega arith) h))))
+        (λ _. here-fails 11))))) .law d s h);
+  }
 
-  pub label-on : (m : ℕ) (x : Lexeme) → Triple (On (m + 10)) (label x) (λ _. On m)
+  pub label-on : (m : ℕ) (x : Lexeme) → Triple Writes (On (m + 10)) (label x) (λ _. On m)
   unfolding label encode fields field bytes
   label-on m x = kindThen _ λ y g. andThen (whether (isMark ":" (y .kind)) (λ e. behind (λ _ d s h. on-less (omega arith) h) (past y g (mark-inside ":" (y .kind) e))) (λ _. returns tt (λ d s h. h .1)))
-      (λ _. writes {m = m} (LL (x .from) (x .to)) 10 (le-refl 10))
+      (λ _. pays {m = m} _ 10 (le-refl 10))
 
   width-four : (width v : ℕ) → length (take width (field v)) ≤ 4
   unfolding field
   width-four width v = omega (arith, length-take width (field v))
 
-  module _ {others : Reader Line (List ℕ)} (more′ : (m : ℕ) → Triple (On m) others (λ ds. On (m + length ds))) where
-    chunk : (m k : ℕ) (x : Lexeme) (g : List ℕ) → k + x .from ≤ x .to → length g ≤ 18 * k → Triple (Here x m) (next >> others >>= λ ds. return (g ++ ds)) (λ ds. On (m + length ds))
+  module _ {others : Reader Line (List ℕ)} (more′ : (m : ℕ) → Triple Writes (On m) others (λ ds. On (m + length ds))) where
+    chunk : (m k : ℕ) (x : Lexeme) (g : List ℕ) → k + x .from ≤ x .to → length g ≤ 18 * k → Triple Writes (Here x m) (next >> others >>= λ ds. return (g ++ ds)) (λ ds. On (m + length ds))
     chunk m k x g i j = bind (andThen (nexts x k i) (λ _. more′ (m + 18 * k))) λ ds. returns (g ++ ds) (λ d s h. on-less (omega (arith, length-append g ds)) h)
 
-    literalOf-on : (m : ℕ) (k : Kind) (x : Lexeme) (width : ℕ) → x .kind ≡ k → Sound hi x → Triple (Here x m) (literalOf k width others) (λ ds. On (m + length ds))
+    literalOf-on : (m : ℕ) (k : Kind) (x : Lexeme) (width : ℕ) → x .kind ≡ k → Sound hi x → Triple Writes (Here x m) (literalOf k width others) (λ ds. On (m + length ds))
     unfolding literalOf isLineEnd
     literalOf-on m newline x width e f = returns [] (λ d s h. on-less (omega arith) (h .1))
     literalOf-on m end x width e f = returns [] (λ d s h. on-less (omega arith) (h .1))
@@ -424,7 +339,7 @@ module _ (n hi D : ℕ) (rest : List Lexeme) where
     literalOf-on m invalid x width e f = here-fails 15
     literalOf-on m (bad b) x width e f = here-fails 15
 
-  pub literals-on : (k m width : ℕ) → Triple (On m) (literals k width) (λ ds. On (m + length ds))
+  pub literals-on : (k m width : ℕ) → Triple Writes (On m) (literals k width) (λ ds. On (m + length ds))
   unfolding literals
   literals-on zero m width = returns [] (λ d s h. on-less (omega arith) h)
   literals-on (suc k) m width = kindThen _ λ x f. literalOf-on (λ j. literals-on k j width) m (x .kind) x width refl f

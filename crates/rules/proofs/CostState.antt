@@ -23,7 +23,8 @@ use Rattle.rules.proofs.Progress.{name-inside, word-inside}
 use Rattle.rules.proofs.Table.{Proper, same-length}
 use Rattle.rules.proofs.Shape.{asked, Holds, Sound, Chain, chain-low}
 use Rattle.rules.proofs.ShapeState.{flat, chain-drop}
-use Rattle.rules.proofs.Cost.{weight, Post, holds, fails, Triple, after-post, plain-post, thence-post, bind, andThen, whether, perhaps, returns, refuses, before, behind, now, arrive-post, Spaced, On, Here, Wide, on-less, nexts, wide-nexts, expression-on, operands-on, label-on, literals-on}
+use Rattle.rules.proofs.Hoare.{nil, Post, Triple, now, after-post, bind, andThen, whether, perhaps, returns, refuses, writes, before, behind, arrive-post, inLines, askAheadS, askKindS, askPassedS, askLeftS, here-failsS}
+use Rattle.rules.proofs.Cost.{Writes, Spaced, On, Here, Wide, on-less, wide-nexts, expression-on, operands-on, label-on, literals-on}
 
 spaced-drop : (xs ys : List Lexeme) → Spaced (xs ++ ys) → Spaced ys
 spaced-drop [] ys h = h
@@ -38,7 +39,7 @@ allLong (name ∷ names) = leb 2 (length (bytes name)) && allLong names
 
 place-long : (m : ℕ) (w : List ℕ) (t : List String) (r : ℕ) → allLong t ≡ true → placeFrom m w t ≡ some r → 2 ≤ length w
 unfolding placeFrom allLong
-place-long m w [] r l h = let z : _≡_ {A = ℕ} 0 1 = cc in absurd (omega arith)
+place-long m w [] r l h = absurd (true≢false cc)
 place-long m w (name ∷ t) r l h =
     let (a, b) = and-split (leb 2 (length (bytes name))) (allLong t) l in
     go a (same w (bytes name)) refl h (λ e. place-long (suc m) w t r b e)
@@ -60,15 +61,15 @@ directive-long w r h = omega (arith, place-long 0 (map lower w) directives r lon
 text-long : (k : Kind) (w : List ℕ) (f u : ℕ) → textOf k ≡ some w → Holds k f u → length w + f ≤ u
 unfolding textOf
 text-long (word v) w f u h o = let z : v ≡ w = cc in rw (← z) o
-text-long (number v) w f u h o = let z : _≡_ {A = ℕ} 0 1 = cc in absurd (omega arith)
-text-long (quoted b v) w f u h o = let z : _≡_ {A = ℕ} 0 1 = cc in absurd (omega arith)
-text-long (mark c) w f u h o = let z : _≡_ {A = ℕ} 0 1 = cc in absurd (omega arith)
-text-long newline w f u h o = let z : _≡_ {A = ℕ} 0 1 = cc in absurd (omega arith)
-text-long blank w f u h o = let z : _≡_ {A = ℕ} 0 1 = cc in absurd (omega arith)
-text-long comment w f u h o = let z : _≡_ {A = ℕ} 0 1 = cc in absurd (omega arith)
-text-long invalid w f u h o = let z : _≡_ {A = ℕ} 0 1 = cc in absurd (omega arith)
-text-long end w f u h o = let z : _≡_ {A = ℕ} 0 1 = cc in absurd (omega arith)
-text-long (bad b) w f u h o = let z : _≡_ {A = ℕ} 0 1 = cc in absurd (omega arith)
+text-long (number v) w f u h o = absurd (true≢false cc)
+text-long (quoted b v) w f u h o = absurd (true≢false cc)
+text-long (mark c) w f u h o = absurd (true≢false cc)
+text-long newline w f u h o = absurd (true≢false cc)
+text-long blank w f u h o = absurd (true≢false cc)
+text-long comment w f u h o = absurd (true≢false cc)
+text-long invalid w f u h o = absurd (true≢false cc)
+text-long end w f u h o = absurd (true≢false cc)
+text-long (bad b) w f u h o = absurd (true≢false cc)
 
 asked-long : (k : Kind) (ask : List ℕ → Option ℕ) (r f u : ℕ) → ((w : List ℕ) (r : ℕ) → ask w ≡ some r → 2 ≤ length w) → maybe (textOf k) none ask ≡ some r → Holds k f u → 2 + f ≤ u
 asked-long k ask r f u l h o =
@@ -83,46 +84,27 @@ module _ (n hi D : ℕ) where
   abbrev pub OnS : ℕ → ℕ → State → Type 0
   OnS m d s = On n hi D (flat (s .below)) m d (s .line)
 
-  over-post : {A : Type 0} {Q : A → ℕ → Line → Type 0} {R : A → ℕ → State → Type 0} {d : ℕ} (rs : List Row) → ((a : A) (d : ℕ) (l : Line) → Q a d l → R a d (record { line = l; below = rs }))
-      → {p : Answer Line A} → Post Q d p → Post R d (over rs p)
-  unfolding over
-  over-post {d = d} rs e (holds {w = w} {a = a} {s = l} q) = holds {w = w} {a = a} {s = record { line = l; below = rs }} (e a (d + weight w) l q)
-  over-post rs e fails = fails
-
-  inLines : {A : Type 0} {k : Reader Line A} (P : List Lexeme → ℕ → Line → Type 0) (Q : List Lexeme → A → ℕ → Line → Type 0) → ((rest : List Lexeme) → Triple (P rest) k (Q rest))
-      → Triple (λ d s. P (flat (s .below)) d (s .line)) (inLine k) (λ a d s. Q (flat (s .below)) a d (s .line))
-  unfolding inLine
-  inLines P Q e = record { law = λ d s h. over-post (s .below) (λ a d l q. q) (e (flat (s .below)) .law d (s .line) h) }
-
-  inOn : {A : Type 0} {k : Reader Line A} (m m′ : ℕ) → ((rest : List Lexeme) → Triple (On n hi D rest m) k (λ _. On n hi D rest m′)) → Triple (OnS m) (inLine k) (λ _. OnS m′)
-  inOn m m′ e = inLines (λ rest. On n hi D rest m) (λ rest _. On n hi D rest m′) e
+  inOn : {A : Type 0} {k : Reader Line A} (m m′ : ℕ) → ((rest : List Lexeme) → Triple Writes (On n hi D rest m) k (λ _. On n hi D rest m′)) → Triple Writes (OnS m) (inLine k) (λ _. OnS m′)
+  inOn m m′ e = inLines (λ rs. On n hi D (flat rs) m) (λ rs _. On n hi D (flat rs) m′) (λ rs. e (flat rs))
 
   less : {m m′ d : ℕ} (s : State) → m′ ≤ m → OnS m d s → OnS m′ d s
   less s i h = on-less n hi D (flat (s .below)) i h
 
-  aheadS : {B : Type 0} {m : ℕ} {f : Lexeme → Reader State B} {R : B → ℕ → State → Type 0} → ((x : Lexeme) → Sound hi x → Triple (λ d s. (s .line .here ≡ x) × OnS m d s) (f x) R) → Triple (OnS m) (inLine ahead >>= f) R
-  unfolding ahead _>>=_ thence inLine over
-  aheadS e = record { law = λ d s h. plain-post (e (s .line .here) (h .chain .1) .law d s (refl, h)) }
+  at-token : {A : Type 0} {m : ℕ} {f : Reader State A} {R : A → ℕ → State → Type 0} (x : Lexeme) → (Sound hi x → Triple Writes (λ d s. (s .line .here ≡ x) × OnS m d s) f R)
+      → Triple Writes (λ d s. (s .line .here ≡ x) × OnS m d s) f R
+  at-token x e = record { law = λ d s h. e (rw (h .0) at (h .1 .chain .1)) .law d s h }
 
-  kindS : {B : Type 0} {m : ℕ} (f : Kind → Reader State B) {R : B → ℕ → State → Type 0} → ((x : Lexeme) → Sound hi x → Triple (OnS m) (f (x .kind)) R) → Triple (OnS m) (inLine kind >>= f) R
-  unfolding kind _>>=_ thence inLine over
-  kindS f e = record { law = λ d s h. plain-post (e (s .line .here) (h .chain .1) .law d s h) }
+  aheadS : {B : Type 0} {m : ℕ} {f : Lexeme → Reader State B} {R : B → ℕ → State → Type 0} → ((x : Lexeme) → Sound hi x → Triple Writes (λ d s. (s .line .here ≡ x) × OnS m d s) (f x) R) → Triple Writes (OnS m) (inLine ahead >>= f) R
+  aheadS e = askAheadS λ x. at-token x (e x)
 
-  passedS : {B : Type 0} {f : ℕ → Reader State B} {P : ℕ → State → Type 0} {R : B → ℕ → State → Type 0} → ((t : ℕ) → Triple P (f t) R) → Triple P (inLine passed >>= f) R
-  unfolding passed _>>=_ thence inLine over
-  passedS e = record { law = λ d s h. plain-post (e (s .line .last) .law d s h) }
+  kindS : {B : Type 0} {m : ℕ} (f : Kind → Reader State B) {R : B → ℕ → State → Type 0} → ((x : Lexeme) → Sound hi x → Triple Writes (OnS m) (f (x .kind)) R) → Triple Writes (OnS m) (inLine kind >>= f) R
+  kindS f e = askKindS f λ x. at-token x λ q. before (λ d s h. h .1) (e x q)
 
-  leftS : {B : Type 0} {f : ℕ → Reader State B} {P : ℕ → State → Type 0} {R : B → ℕ → State → Type 0} → ((t : ℕ) → Triple P (f t) R) → Triple P (inLine left >>= f) R
-  unfolding left _>>=_ thence inLine over
-  leftS e = record { law = λ d s h. plain-post (e (length (s .line .more)) .law d s h) }
+  passedS : {B : Type 0} {f : ℕ → Reader State B} {P : ℕ → State → Type 0} {R : B → ℕ → State → Type 0} → ((t : ℕ) → Triple Writes P (f t) R) → Triple Writes P (inLine passed >>= f) R
+  passedS e = askPassedS λ t. before (λ d s h. h .1) (e t)
 
-  failsS : {A : Type 0} {P : ℕ → State → Type 0} {R : A → ℕ → State → Type 0} (k : ℕ) → Triple P (inLine (refuseHere k)) R
-  unfolding refuseHere inLine over
-  failsS k = record { law = λ d s h. fails }
-
-  writesS : {m : ℕ} (r : Record) (k : ℕ) → length (encode r) ≤ k → Triple (OnS (m + k)) (write r) (λ _. OnS m)
-  unfolding write listing
-  writesS r k i = record { law = λ d s h. holds {w = r ∷ []} {s = s} (record { paid = omega (arith, h .paid, length-append (encode r) []); chain = h .chain; spaced = h .spaced }) }
+  paysS : {m : ℕ} (r : Record) (k : ℕ) → length (encode r) ≤ k → Triple Writes (OnS (m + k)) (write r) (λ _. OnS m)
+  paysS r k i = writes r λ d s h. (d + length (encode r), record { sum = refl }, record { paid = omega (arith, h .paid); chain = h .chain; spaced = h .spaced })
 
   row-on : {m d : ℕ} (l : Line) (r : Row) (rs : List Row) → On n hi D (flat (r ∷ rs)) m d l → On n hi D (flat rs) m d (firstOf r)
   unfolding firstOf
@@ -131,48 +113,48 @@ module _ (n hi D : ℕ) where
       let q : lo ≤ r .first .from = j .0 in
       record { paid = omega (arith, h .paid, h .chain .1 .ordered); chain = chain-low n hi lo 0 (flat (r ∷ rs)) zero-le j; spaced = spaced-drop (l .here ∷ l .more) (flat (r ∷ rs)) (h .spaced) }
 
-  stepRow-on : {m d : ℕ} (l : Line) (rs : List Row) → On n hi D (flat rs) m d l → Post (λ _. OnS m) d (stepRow rs (record { line = l; below = rs }))
+  stepRow-on : {m d : ℕ} (l : Line) (rs : List Row) → On n hi D (flat rs) m d l → Post Writes (λ _. OnS m) d (stepRow rs (record { line = l; below = rs }))
   unfolding stepRow enter
   stepRow-on l [] h = now h
   stepRow-on l (r ∷ rs) h = arrive-post (r .first) (now (row-on l r rs h))
 
-  lineEnd-on : (m : ℕ) → Triple (OnS m) lineEnd (λ _. OnS m)
+  lineEnd-on : (m : ℕ) → Triple Writes (OnS m) lineEnd (λ _. OnS m)
   unfolding lineEnd nextRow
-  lineEnd-on m = kindS _ λ x f. whether (isLineEnd (x .kind)) (λ _. record { law = λ d s h. stepRow-on (s .line) (s .below) h }) (λ _. failsS 10)
+  lineEnd-on m = kindS _ λ x f. whether (isLineEnd (x .kind)) (λ _. record { law = λ d s h. stepRow-on (s .line) (s .below) h }) (λ _. here-failsS 10)
 
-  skip-on : {m d : ℕ} (l : Line) (rs : List Row) → On n hi D (flat rs) m d l → Post (λ _. OnS m) d (skip l rs)
+  skip-on : {m d : ℕ} (l : Line) (rs : List Row) → On n hi D (flat rs) m d l → Post Writes (λ _. OnS m) d (skip l rs)
   unfolding skip
   skip-on l [] h = now h
   skip-on {m} {d} l (r ∷ rs) h = go (isLineEnd (l .here .kind)) (skip-on (firstOf r) rs (row-on l r rs h))
     where
-      go : (o : Bool) → Post (λ _. OnS m) d (skip (firstOf r) rs) → Post (λ _. OnS m) d (if o then (arrive (r .first) (skip (firstOf r) rs)) else (done [] tt (record { line = l; below = r ∷ rs })))
+      go : (o : Bool) → Post Writes (λ _. OnS m) d (skip (firstOf r) rs) → Post Writes (λ _. OnS m) d (if o then (arrive (r .first) (skip (firstOf r) rs)) else (done [] tt (record { line = l; below = r ∷ rs })))
       go true p = arrive-post (r .first) p
       go false p = now h
 
-  skipLines-on : (m : ℕ) → Triple (OnS m) skipLines (λ _. OnS m)
+  skipLines-on : (m : ℕ) → Triple Writes (OnS m) skipLines (λ _. OnS m)
   unfolding skipLines
   skipLines-on m = record { law = λ d s h. skip-on (s .line) (s .below) h }
 
-  instruction-on : (m : ℕ) (x : Lexeme) (op : ℕ) → isWord (x .kind) ≡ true → Triple (λ d s. Wide n hi D (flat (s .below)) (x .kind) (m + 36) d (s .line)) (instruction x op) (λ _. OnS (m + 6))
+  instruction-on : (m : ℕ) (x : Lexeme) (op : ℕ) → isWord (x .kind) ≡ true → Triple Writes (λ d s. Wide n hi D (flat (s .below)) (x .kind) (m + 36) d (s .line)) (instruction x op) (λ _. OnS (m + 6))
   unfolding instruction encode fields field bytes
   instruction-on m x op w = whether (eqb op rep || eqb op repne)
-      (λ _. passedS λ t. before (λ d s h. less s (omega arith) (h .0)) (writesS {m = m + 6} (LI (x .from) t op 0 t t) 26 (le-refl 26)))
-      (λ _. bind (inLines (λ rest. Wide n hi D rest (x .kind) (m + 36)) (λ rest _. On n hi D rest (m + 32)) (λ rest. operands-on n hi D rest m (x .kind) w)) λ o.
-        passedS λ t. andThen (lineEnd-on (m + 32)) (λ _. before (λ d s h. less s (omega arith) h) (writesS {m = m + 6} (LI (x .from) t op (o .count) (o .from) (o .to)) 26 (le-refl 26))))
+      (λ _. passedS λ t. before (λ d s h. less s (omega arith) (h .0)) (paysS {m = m + 6} _ 26 (le-refl 26)))
+      (λ _. bind (inLines (λ rs. Wide n hi D (flat rs) (x .kind) (m + 36)) (λ rs _. On n hi D (flat rs) (m + 32)) (λ rs. operands-on n hi D (flat rs) m (x .kind) w)) λ o.
+      passedS λ t. andThen (lineEnd-on (m + 32)) (λ _. before (λ d s h. less s (omega arith) h) (paysS {m = m + 6} _ 26 (le-refl 26))))
 
-  constant-on : (m : ℕ) (x : Lexeme) → Triple (OnS (m + 36)) (constant x) (λ _. OnS (m + 6))
+  constant-on : (m : ℕ) (x : Lexeme) → Triple Writes (OnS (m + 36)) (constant x) (λ _. OnS (m + 6))
   unfolding constant encode fields field bytes
   constant-on m x = andThen (inOn (m + 36) (m + 36 + 4) (λ rest. expression-on n hi D rest (m + 36))) (λ _. passedS λ t. andThen (lineEnd-on (m + 36 + 4))
-      (λ _. before (λ d s h. less s (omega arith) h) (writesS {m = m + 6} (LC (x .from) t) 10 (le-refl 10))))
+      (λ _. before (λ d s h. less s (omega arith) h) (paysS {m = m + 6} _ 10 (le-refl 10))))
 
-  someData-on : (m : ℕ) (x : Lexeme) (ds : List ℕ) → Triple (OnS (m + 36 + length ds)) (someData x ds) (λ _. OnS (m + 6))
+  someData-on : (m : ℕ) (x : Lexeme) (ds : List ℕ) → Triple Writes (OnS (m + 36 + length ds)) (someData x ds) (λ _. OnS (m + 6))
   unfolding someData encode fields field bytes
-  someData-on m x [] = refuses (at 23 (x .from) (x .to))
-  someData-on m x (b ∷ bs) = passedS λ t. andThen (lineEnd-on _) (λ _. before (λ d s h. less s (omega arith) h) (writesS {m = m + 6} (LD (x .from) t (b ∷ bs)) (14 + length (b ∷ bs)) (omega arith)))
+  someData-on m x [] = refuses _
+  someData-on m x (b ∷ bs) = passedS λ t. andThen (lineEnd-on _) (λ _. before (λ d s h. less s (omega arith) h) (paysS {m = m + 6} _ (14 + length (b ∷ bs)) (omega arith)))
 
-  dataOf-on : (m : ℕ) (x : Lexeme) (width : ℕ) → Triple (OnS (m + 36)) (dataOf x width) (λ _. OnS (m + 6))
+  dataOf-on : (m : ℕ) (x : Lexeme) (width : ℕ) → Triple Writes (OnS (m + 36)) (dataOf x width) (λ _. OnS (m + 6))
   unfolding dataOf
-  dataOf-on m x width = leftS λ k. bind (inLines (λ rest. On n hi D rest (m + 36)) (λ rest ds. On n hi D rest (m + 36 + length ds)) (λ rest. literals-on n hi D rest (suc k) (m + 36) width)) λ ds. someData-on m x ds
+  dataOf-on m x width = askLeftS λ k. bind (inLines (λ rs. On n hi D (flat rs) (m + 36)) (λ rs ds. On n hi D (flat rs) (m + 36 + length ds)) (λ rs. literals-on n hi D (flat rs) (suc k) (m + 36) width)) λ ds. someData-on m x ds
 
   two : (x : Lexeme) (r : ℕ) → Sound hi x → nameIn directives (x .kind) ≡ some r → 2 + x .from ≤ x .to
   unfolding nameIn
@@ -183,44 +165,44 @@ module _ (n hi D : ℕ) where
     unfolding operationIn
     two-operation x r f e = asked-long (x .kind) (operationNamed table) r (x .from) (x .to) (λ w r h. proper .long w r h) e (f .holds)
 
-    passing-on : (m k : ℕ) (x : Lexeme) → k + x .from ≤ x .to → {f : Reader State (Unit {0})} {R : Unit {0} → ℕ → State → Type 0} → Triple (λ d s. Wide n hi D (flat (s .below)) (x .kind) (m + 18 * k) d (s .line)) f R
-        → Triple (λ d s. (s .line .here ≡ x) × OnS m d s) (passing f) R
+    passing-on : (m k : ℕ) (x : Lexeme) → k + x .from ≤ x .to → {f : Reader State (Unit {0})} {R : Unit {0} → ℕ → State → Type 0} → Triple Writes (λ d s. Wide n hi D (flat (s .below)) (x .kind) (m + 18 * k) d (s .line)) f R
+        → Triple Writes (λ d s. (s .line .here ≡ x) × OnS m d s) (passing f) R
     unfolding passing
-    passing-on m k x i p = andThen (inLines (λ rest. Here n hi D rest x m) (λ rest _. Wide n hi D rest (x .kind) (m + 18 * k)) (λ rest. wide-nexts n hi D rest x k i)) (λ _. p)
+    passing-on m k x i p = andThen (inLines (λ rs. Here n hi D (flat rs) x m) (λ rs _. Wide n hi D (flat rs) (x .kind) (m + 18 * k)) (λ rs. wide-nexts n hi D (flat rs) x k i)) (λ _. p)
 
-    module _ {times′ : Reader State (Unit {0})} (nested : (m : ℕ) (x : Lexeme) → Sound hi x → 2 + x .from ≤ x .to → Triple (λ d s. (s .line .here ≡ x) × OnS m d s) times′ (λ _. OnS (m + 6))) where
-      line-on : (m : ℕ) → Triple (OnS m) (line table times′) (λ _. OnS (m + 6))
+    module _ {times′ : Reader State (Unit {0})} (nested : (m : ℕ) (x : Lexeme) → Sound hi x → 2 + x .from ≤ x .to → Triple Writes (λ d s. (s .line .here ≡ x) × OnS m d s) times′ (λ _. OnS (m + 6))) where
+      line-on : (m : ℕ) → Triple Writes (OnS m) (line table times′) (λ _. OnS (m + 6))
       unfolding line
       line-on m = aheadS λ x f. perhaps (operationIn table (x .kind))
           (perhaps (nameIn directives (x .kind))
-            (whether (isWord (x .kind)) (λ w. passing-on m 1 x (omega (arith, f .strict (word-inside (x .kind) w) .0)) (before (λ d s h. less s (omega arith) (h .0)) (inOn (m + 6 + 10) (m + 6) (λ rest. label-on n hi D rest (m + 6) x)))) (λ _. failsS 20))
-            λ r e. whether (eqb r 0) (λ _. passing-on m 2 x (two x r f e) (before (λ d s h. less s (omega arith) (h .0)) (constant-on m x)))
-              (λ _. whether (ltb r 3) (λ _. passing-on m 2 x (two x r f e) (before (λ d s h. less s (omega arith) (h .0)) (dataOf-on m x r))) (λ _. nested m x f (two x r f e))))
+          (whether (isWord (x .kind)) (λ w. passing-on m 1 x (omega (arith, f .strict (word-inside (x .kind) w) .0)) (before (λ d s h. less s (omega arith) (h .0)) (inOn (m + 6 + 10) (m + 6) (λ rest. label-on n hi D rest (m + 6) x)))) (λ _. here-failsS 20))
+          λ r e. whether (eqb r 0) (λ _. passing-on m 2 x (two x r f e) (before (λ d s h. less s (omega arith) (h .0)) (constant-on m x)))
+          (λ _. whether (ltb r 3) (λ _. passing-on m 2 x (two x r f e) (before (λ d s h. less s (omega arith) (h .0)) (dataOf-on m x r))) (λ _. nested m x f (two x r f e))))
           λ op e. passing-on m 2 x (two-operation x op f e) (instruction-on m x op (operation-word table (x .kind) op e))
 
-      content-on : (m : ℕ) (x : Lexeme) → Triple (OnS (m + 4)) (content table times′ x) (λ _. OnS m)
+      content-on : (m : ℕ) (x : Lexeme) → Triple Writes (OnS (m + 4)) (content table times′ x) (λ _. OnS m)
       unfolding content encode fields field bytes
-      content-on m x = kindS _ λ y f. andThen (whether (isLineEnd (y .kind)) (λ _. refuses (at 34 (x .from) (x .to))) (λ _. line-on (m + 4)))
-          (λ _. before (λ d s h. less s (omega arith) h) (writesS {m = m} LT 10 (le-refl 10)))
+      content-on m x = kindS _ λ y f. andThen (whether (isLineEnd (y .kind)) (λ _. refuses _) (λ _. line-on (m + 4)))
+          (λ _. before (λ d s h. less s (omega arith) h) (paysS {m = m} LT 10 (le-refl 10)))
 
-    aheadHereS : {B : Type 0} {m : ℕ} (f : Lexeme → Reader State B) {R : B → ℕ → State → Type 0} (x : Lexeme) → Triple (λ d s. (s .line .here ≡ x) × OnS m d s) (f x) R → Triple (λ d s. (s .line .here ≡ x) × OnS m d s) (inLine ahead >>= f) R
+    aheadHereS : {B : Type 0} {m : ℕ} (f : Lexeme → Reader State B) {R : B → ℕ → State → Type 0} (x : Lexeme) → Triple Writes (λ d s. (s .line .here ≡ x) × OnS m d s) (f x) R → Triple Writes (λ d s. (s .line .here ≡ x) × OnS m d s) (inLine ahead >>= f) R
     unfolding ahead _>>=_ thence inLine over
-    aheadHereS f {R} x e = record { law = λ d s h. plain-post (subst (λ (y : Lexeme). Post R d (f y s)) (sym (h .0)) (e .law d s h)) }
+    aheadHereS f {R} x e = record { law = λ d s h. after-post nil (subst (λ (y : Lexeme). Post Writes R d (f y s)) (sym (h .0)) (e .law d s h)) }
 
-    times-on : (k m : ℕ) (x : Lexeme) → Sound hi x → 2 + x .from ≤ x .to → Triple (λ d s. (s .line .here ≡ x) × OnS m d s) (times table k) (λ _. OnS (m + 6))
+    times-on : (k m : ℕ) (x : Lexeme) → Sound hi x → 2 + x .from ≤ x .to → Triple Writes (λ d s. (s .line .here ≡ x) × OnS m d s) (times table k) (λ _. OnS (m + 6))
     unfolding times
-    times-on zero m x f i = failsS 5
+    times-on zero m x f i = here-failsS 5
     times-on (suc k) m x f i = aheadHereS _ x (passing-on m 2 x i (before (λ d s h. h .0) (andThen (inOn (m + 36) (m + 36 + 4) (λ rest. expression-on n hi D rest (m + 36)))
         (λ _. andThen (skipLines-on (m + 36 + 4)) (λ _. behind (λ _ d s h. less s (omega arith) h) (content-on (times-on k) (m + 36) x))))))
 
 -- Between statements: what is written is paid for by the bytes before the token ahead.
 module _ (table : List ℕ) (proper : Proper table) (n hi : ℕ) where
-  begun-on : Triple (OnS n hi 6 6) (begun table) (λ _. OnS n hi 6 6)
+  begun-on : Triple Writes (OnS n hi 6 6) (begun table) (λ _. OnS n hi 6 6)
   unfolding begun encode fields field bytes
   begun-on = aheadS n hi 6 λ x f. before (λ d s h. h .1) (whether (isLineEnd (x .kind)) (λ _. returns false (λ d s h. h))
-      (λ _. andThen (andThen (before (λ d s h. less n hi 6 s (omega arith) h) (writesS n hi 6 {m = 0} (ST (x .from)) 6 (le-refl 6))) (λ _. line-on n hi 6 table proper (times-on n hi 6 table proper 16) 0))
-        (λ _. returns true (λ d s h. less n hi 6 s (omega arith) h))))
+      (λ _. andThen (andThen (before (λ d s h. less n hi 6 s (omega arith) h) (paysS n hi 6 {m = 0} _ 6 (le-refl 6))) (λ _. line-on n hi 6 table proper (times-on n hi 6 table proper 16) 0))
+      (λ _. returns true (λ d s h. less n hi 6 s (omega arith) h))))
 
-  pub statement-on : Triple (OnS n hi 6 6) (statement table) (λ _. OnS n hi 6 6)
+  pub statement-on : Triple Writes (OnS n hi 6 6) (statement table) (λ _. OnS n hi 6 6)
   unfolding statement
   statement-on = andThen (skipLines-on n hi 6 6) (λ _. begun-on)

@@ -65,27 +65,26 @@ blankRows [] = true
 blankRows (r ∷ rs) = isLineEnd (r .first .kind) && blankRows rs
 
 -- past empty lines one is at the end, with no row that has a token, or at a token
-module _ where
-  arrive-done : (x : Lexeme) (p : Answer State (Unit {0})) {w : List Record} {t : State} → arrive x p ≡ done w tt t → p ≡ done w tt t
-  unfolding arrive
-  arrive-done x p {w} {t} h = go (refusedAs (x .kind)) h
-    where
-      go : (o : Option ℕ) → maybe o p (λ n. refused (at n (x .from) (x .to))) ≡ done w tt t → p ≡ done w tt t
-      go none e = e
-      go (some n) e = let y : _≡_ {A = ℕ} 0 1 = cc in absurd (omega arith)
+pub arrive-done : {A : Type 0} (x : Lexeme) (p : Answer State A) {w : List Record} {a : A} {t : State} → arrive x p ≡ done w a t → p ≡ done w a t
+unfolding arrive
+arrive-done x p {w} {a} {t} h = go (refusedAs (x .kind)) h
+  where
+    go : (o : Option ℕ) → maybe o p (λ n. refused (at n (x .from) (x .to))) ≡ done w a t → p ≡ done w a t
+    go none e = e
+    go (some n) e = absurd (true≢false cc)
 
-  skip-blank : (l : Line) (rs : List Row) {w : List Record} {t : State} → skip l rs ≡ done w tt t → isLineEnd (t .line .here .kind) ≡ true → isLineEnd (l .here .kind) && blankRows rs ≡ true
-  unfolding skip blankRows firstOf
-  skip-blank l [] {w} {t} h e =
-      let y : record { line = l; below = [] } ≡ t = cc in
-      let z : isLineEnd (l .here .kind) ≡ true = ap (λ (u : State). isLineEnd (u .line .here .kind)) y ∙ e in
-      rw z
-  skip-blank l (r ∷ rs) {w} {t} h e = go (isLineEnd (l .here .kind)) refl h (λ j. skip-blank (firstOf r) rs j e)
-    where
-      go : (b : Bool) → isLineEnd (l .here .kind) ≡ b → _≡_ {A = Answer State (Unit {0})} (if b then (arrive (r .first) (skip (firstOf r) rs)) else (done [] tt (record { line = l; below = r ∷ rs }))) (done w tt t)
-          → (skip (firstOf r) rs ≡ done w tt t → isLineEnd (r .first .kind) && blankRows rs ≡ true) → b && (isLineEnd (r .first .kind) && blankRows rs) ≡ true
-      go true i j again = again (arrive-done (r .first) (skip (firstOf r) rs) j)
-      go false i j again =
+pub skip-blank : (l : Line) (rs : List Row) {w : List Record} {t : State} → skip l rs ≡ done w tt t → isLineEnd (t .line .here .kind) ≡ true → isLineEnd (l .here .kind) && blankRows rs ≡ true
+unfolding skip blankRows firstOf
+skip-blank l [] {w} {t} h e =
+    let y : record { line = l; below = [] } ≡ t = cc in
+    let z : isLineEnd (l .here .kind) ≡ true = ap (λ (u : State). isLineEnd (u .line .here .kind)) y ∙ e in
+    rw z
+skip-blank l (r ∷ rs) {w} {t} h e = go (isLineEnd (l .here .kind)) refl h (λ j. skip-blank (firstOf r) rs j e)
+  where
+    go : (b : Bool) → isLineEnd (l .here .kind) ≡ b → _≡_ {A = Answer State (Unit {0})} (if b then (arrive (r .first) (skip (firstOf r) rs)) else (done [] tt (record { line = l; below = r ∷ rs }))) (done w tt t)
+        → (skip (firstOf r) rs ≡ done w tt t → isLineEnd (r .first .kind) && blankRows rs ≡ true) → b && (isLineEnd (r .first .kind) && blankRows rs) ≡ true
+    go true i j again = again (arrive-done (r .first) (skip (firstOf r) rs) j)
+    go false i j again =
         let y : record { line = l; below = r ∷ rs } ≡ t = cc in
         sym i ∙ ap (λ (u : State). isLineEnd (u .line .here .kind)) y ∙ e
 
@@ -129,7 +128,7 @@ rows-total (x ∷ xs) = go (isLineEnd (x .kind)) (rows-total xs)
 
 push-all : (x : Lexeme) (l : List Row) → Some l → AllEnded l → AllEnded (push x l)
 unfolding push
-push-all x [] (r, rs, e) h = let y : _≡_ {A = ℕ} 0 1 = cc in absurd (omega arith)
+push-all x [] (r, rs, e) h = absurd (true≢false cc)
 push-all x (r ∷ rs) e h = h
 
 rows-all : (xs : List Lexeme) → Finished xs → AllEnded (rows xs)
@@ -265,7 +264,7 @@ unfolding skip
 skip-step l r rs h = rw h
 
 -- Where no row has a token, nothing is read.
-skip-over : (l : Line) (rs : List Row) → isLineEnd (l .here .kind) && blankRows rs ≡ true → (u : State) × (skip l rs ≡ done [] tt u) × Ending u
+pub skip-over : (l : Line) (rs : List Row) → isLineEnd (l .here .kind) && blankRows rs ≡ true → (u : State) × (skip l rs ≡ done [] tt u) × Ending u
 unfolding skip blankRows firstOf
 skip-over l [] h = (record { line = l; below = [] }, refl, record { over′ = sym (and-true (isLineEnd (l .here .kind))) ∙ h; none′ = refl })
 skip-over l (r ∷ rs) h =
@@ -283,15 +282,16 @@ blank-split p (c ∷ cs) B l =
     let n : ℕ = p + length (c ∷ cs) in
     let u : List Row = rows (tokensWithin p 0 (c ∷ cs)) in
     ap blankRows (rows-before p c cs l B) ∙ blank-append u (rowsFrom n B)
-      ∙ ap (λ (b : Bool). b && blankRows (rowsFrom n B)) (sym (ap blankRows (rows-alone p c cs l) ∙ blank-append u (endRow n ∷ []) ∙ ap (λ (b : Bool). blankRows u && b) (blank-last n) ∙ and-true (blankRows u)))
+    ∙ ap (λ (b : Bool). b && blankRows (rowsFrom n B)) (sym (ap blankRows (rows-alone p c cs l) ∙ blank-append u (endRow n ∷ []) ∙ ap (λ (b : Bool). blankRows u && b) (blank-last n) ∙ and-true (blankRows u)))
+
 run-accepted : (a : Answer State (Unit {0})) (w : List Record) → outcome a ≡ accepted w → (u : State) × (a ≡ done w tt u)
 unfolding outcome
 run-accepted (done v x u) w e = let z : v ≡ w = cc in (u, ap (λ (l : List Record). done l tt u) z)
-run-accepted (refused r) w e = let z : _≡_ {A = ℕ} 0 1 = cc in absurd (omega arith)
+run-accepted (refused r) w e = absurd (true≢false cc)
 
 run-refused : (a : Answer State (Unit {0})) (r : Refusal) → outcome a ≡ refusal r → a ≡ refused r
 unfolding outcome
-run-refused (done v x u) r e = let z : _≡_ {A = ℕ} 0 1 = cc in absurd (omega arith)
+run-refused (done v x u) r e = absurd (true≢false cc)
 run-refused (refused q) r e = cc
 
 module _ (table : List ℕ) where
@@ -321,11 +321,11 @@ module _ (table : List ℕ) where
   unfolding content _>>=_ _>>_ thence inLine over kind
   content-at m x t h = rw h
 
-  begun-at : (t : State) → isLineEnd (t .line .here .kind) ≡ false → begun table t ≡ after [] (thence (after (ST (t .line .here .from) ∷ []) (line table (times table 16) t)) (λ _. return true))
+  pub begun-at : (t : State) → isLineEnd (t .line .here .kind) ≡ false → begun table t ≡ after [] (thence (after (ST (t .line .here .from) ∷ []) (line table (times table 16) t)) (λ _. return true))
   unfolding begun _>>=_ _>>_ thence inLine over ahead write
   begun-at t h = rw h
 
-  statement-is : (s : State) → statement table s ≡ thence (skipLines s) (λ _. begun table)
+  pub statement-is : (s : State) → statement table s ≡ thence (skipLines s) (λ _. begun table)
   unfolding statement _>>=_ _>>_
   statement-is s = refl
 
@@ -372,7 +372,7 @@ module _ (table : List ℕ) where
         go : (o : Bool) → isLineEnd (t .line .here .kind) ≡ o → IsOpen q′
         go true i = absurd (true≢false (sym (skipped-blank w0 t e i) ∙ n))
         go false i = core (line-deep table (times-deep table (p .n) 16 (p .few)) .law t) (p .w) w0 (p .z) (p .a) (t .line .here .from)
-          (pending-done p w0 t (coming-fine f ∙ e) i) (statement-done w0 t e i) c (continues table g) h
+            (pending-done p w0 t (coming-fine f ∙ e) i) (statement-done w0 t e i) c (continues table g) h
 
     pub late-opens : blankRows (b ∷ bs) ≡ false → {a : Answer State Bool} (p : Pending table b bs a) {q q′ : Answer State (Unit {0})} → Continues table a q → Begins table (b ∷ bs) q′ → IsOpen q → IsOpen q′
     late-opens n p c (fine f g) h = late-at f n p (skipLines (enter b bs)) refl c g h
@@ -381,8 +381,8 @@ module _ (table : List ℕ) where
   -- A run from a row is the only one.
   pub begins-only : {l : List Row} {p q : Answer State (Unit {0})} → Begins table l p → Begins table l q → p ≡ q
   begins-only (fine f g) (fine f′ g′) = only table g g′
-  begins-only (fine f g) (broken {n = n} h) = let y : none ≡ some n = sym f ∙ h in let z : _≡_ {A = ℕ} 0 1 = cc in absurd (omega arith)
-  begins-only (broken {n = n} h) (fine f g) = let y : none ≡ some n = sym f ∙ h in let z : _≡_ {A = ℕ} 0 1 = cc in absurd (omega arith)
+  begins-only (fine f g) (broken {n = n} h) = let y : none ≡ some n = sym f ∙ h in absurd (true≢false cc)
+  begins-only (broken {n = n} h) (fine f g) = let y : none ≡ some n = sym f ∙ h in absurd (true≢false cc)
   begins-only (broken {n = n} h) (broken {n = m} i) = let y : n ≡ m = cc in rw y
 
   abbrev pub Gives : ℕ → List ℕ → Answer State (Unit {0}) → Type 0
@@ -473,7 +473,6 @@ module _ (table : List ℕ) where
       let (u, j, n) = skip-over (firstOf r) rs i in
       let m : statement table (enter r rs) ≡ done [] false u = statement-is (enter r rs) ∙ ap (λ (p : Answer State (Unit {0})). thence p (λ _. begun table)) j ∙ ap (after []) (begun-ends table u n) in
       (u, begins-only (rw e at g) (fine (end-fine (r .first .kind) k) (Reads.stop m)))
-
 
   -- readFrom is the run's outcome
   pub from-run : (p : ℕ) (s : List ℕ) {a : Answer State (Unit {0})} → Gives p s a → readFrom table p s ≡ outcome a

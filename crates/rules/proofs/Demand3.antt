@@ -21,7 +21,8 @@ use Rattle.rules.specs.Calls.{Result, gives, refuses, unless, mostBytes,
 use Rattle.rules.specs.Decode.{decode}
 use Rattle.rules.specs.WellFormed.{wellFormed}
 use Rattle.rules.specs.Patch.{beginsLine, above, lineAt, behind, edited, linesFrom, nearest, lacksContent, isOpen, leavesOpen, openLine, statementFrom, recordsBelow, recordsOn, Edit, exchanged, placedIn, reread, patched, patch}
-use Rattle.rules.proofs.Shape.{Small}
+use Rattle.rules.proofs.Shape.{Small, small-split, small-append, small-parts}
+use Rattle.rules.proofs.Calls.{Accepted, accepted-call}
 use Rattle.rules.proofs.Table.{Proper}
 use Rattle.rules.proofs.Cut.{IsOpen, Gives, lineFeed, from-run, accepts-run, refuses-run, gives as given}
 use Rattle.rules.proofs.Listing.{Inner, Headed, inner-append, from-mono, gives-fits, gives-feed, listing-formed, listing-decodes}
@@ -60,17 +61,6 @@ module _ (a b : ℕ) (h : a ≤ b) where
       go : (c : Bool) → statementFrom a r ≡ c → c ≡ true
       go true e = refl
       go false e = absurd (true≢false (sym i ∙ from-mono a b h r e))
-
-small-split : (a b : List ℕ) → Small (a ++ b) → Small a × Small b
-small-split [] b h = (tt, h)
-small-split (c ∷ a) b h = let (i, j) = small-split a b (h .1) in ((h .0, i), j)
-
-small-append : (a b : List ℕ) → Small a → Small b → Small (a ++ b)
-small-append [] b h i = i
-small-append (c ∷ a) b h i = (h .0, small-append a b (h .1) i)
-
-small-parts : (n : ℕ) (s : List ℕ) → Small s → Small (take n s) × Small (drop n s)
-small-parts n s h = small-split (take n s) (drop n s) (rw (take-append-drop n s) h)
 
 small-same : {s t : List ℕ} → s ≡ t → Small s → Small t
 small-same e h = rw e at h
@@ -147,38 +137,6 @@ unfoldable pub exchangedBy : ℕ → ℕ → ℕ → List Record → Outcome →
 exchangedBy a p q w (accepted v) = accepted (exchanged a p q w v)
 exchangedBy a p q w (refusal r) = refusal r
 
-unless-gives : {A : Type 0} (b : Bool) (r : Refusal) (x : Result A) (y : A) → unless b r x ≡ gives y → (b ≡ false) × (x ≡ gives y)
-unfolding unless
-unless-gives true r x y h = let z : _≡_ {A = ℕ} 0 1 = cc in absurd (omega arith)
-unless-gives false r x y h = (refl, h)
-
--- bytes that are no more than 127
-none-foreign : (p : ℕ) (s : List ℕ) → foreign p s ≡ none → Small s
-unfolding foreign
-none-foreign p [] h = tt
-none-foreign p (c ∷ cs) h = go (ltb 127 c) refl h (λ e. none-foreign (suc p) cs e)
-  where
-    go : (b : Bool) → ltb 127 c ≡ b → _≡_ {A = Option ℕ} (if b then (some p) else (foreign (suc p) cs)) none → (foreign (suc p) cs ≡ none → Small cs) → (c ≤ 2147483647) × Small cs
-    go true e i again = let z : _≡_ {A = ℕ} 0 1 = cc in absurd (omega arith)
-    go false e i again = (omega (arith, ltb-false 127 c e), again i)
-
-ascii-gives : {A : Type 0} (s : List ℕ) (x : Result A) (y : A) → ascii s x ≡ gives y → Small s × (x ≡ gives y)
-unfolding ascii
-ascii-gives s x y h = go (foreign 0 s) refl h
-  where
-    go : (o : Option ℕ) → foreign 0 s ≡ o → maybe o x (λ p. refuses (at 2 p (suc p))) ≡ gives y → Small s × (x ≡ gives y)
-    go none e′ e = (none-foreign 0 s e′, e)
-    go (some p) e′ e = let z : _≡_ {A = ℕ} 0 1 = cc in absurd (omega arith)
-
-listed-gives : (room : ℕ) (o : Outcome) (w : List Record) → listed room o ≡ gives w → o ≡ accepted w
-unfolding listed inRoom
-listed-gives room (accepted v) w h = let (_, i) = unless-gives (ltb room (length (listing v))) (nowhere 4) (gives v) w h in cc
-listed-gives room (refusal r) w h = let z : _≡_ {A = ℕ} 0 1 = cc in absurd (omega arith)
-
-short-is : (s : List ℕ) → tooLong s ≡ false → length s ≤ 65536
-unfolding tooLong mostBytes
-short-is s e = ltb-false 65536 (length s) e
-
 edits-unless : (s : List ℕ) (b : Bool) (r : Refusal) (x : Result (List Record)) → edits s (unless b r x) ≡ unless b r (edits s x)
 unfolding unless edits
 edits-unless s true r x = refl
@@ -226,14 +184,14 @@ module _ (table : List ℕ) (proper : Proper table) where
       kept-is : recordsBelow (0 + length A) w ≡ E .kept
       kept-is = ap (recordsBelow (0 + length A)) (E .joined) ∙ below-kept (0 + length A) (E .kept) (E .dropped ++ E .rest) (gives-fits table proper 0 A (E .kept) (E .u₀) smA (E .keeps) .inner)
           (headed-append (0 + length A) (E .dropped) (E .rest) (gives-fits table proper _ _ (E .dropped) (E .u₁) (small-append L (take 1 B) smL (small-parts 1 B smB .0)) (E .drops) .headed)
-            (headed-mono (0 + length A) (0 + length A + length L) (omega arith) (E .rest) after-line))
+          (headed-mono (0 + length A) (0 + length A + length L) (omega arith) (E .rest) after-line))
 
       rest-is : recordsOn (0 + length A + length L) w ≡ E .rest
       rest-is = ap (recordsOn (0 + length A + length L)) (E .joined ∙ sym (append-assoc (E .kept) (E .dropped) (E .rest)))
           ∙ on-rest (0 + length A + length L) (E .kept ++ E .dropped) (E .rest)
-            (inner-append (0 + length A + length L) (E .kept) (E .dropped)
-              (inner-mono (0 + length A) (0 + length A + length L) (omega arith) (E .kept) (gives-fits table proper 0 A (E .kept) (E .u₀) smA (E .keeps) .inner))
-              (dropped-inner (0 + length A) L B b (E .dropped) (E .u₁) smL (E .drops))) after-line
+          (inner-append (0 + length A + length L) (E .kept) (E .dropped)
+          (inner-mono (0 + length A) (0 + length A + length L) (omega arith) (E .kept) (gives-fits table proper 0 A (E .kept) (E .u₀) smA (E .keeps) .inner))
+          (dropped-inner (0 + length A) L B b (E .dropped) (E .u₁) smL (E .drops))) after-line
 
       alike : (o : Outcome) → readFrom table (0 + length A) (N ++ take 1 B) ≡ o → readFrom table 0 (A ++ (N ++ B)) ≡ exchangedBy (0 + length A) (length L) (length N) w o
       unfolding exchangedBy exchanged outcome
@@ -261,20 +219,7 @@ module _ (table : List ℕ) (proper : Proper table) where
         let (k, m) = or-split (leavesOpen table new) (maybe (nearest (linesFrom [] (take a old))) false (leavesOpen table)) j in
         let (u, g) = accepts-run table 0 old w e in
         joined-alike (take a old) (lineAt old a) new (behind old a) (at′ .lines) (run-behind (drop a old)) (closed-above (take a old) (at′ .lines) m) (closed (lineAt old a) i) (closed new k)
-          w u (small-same (split-line old a) sm) (gives-same table 0 (split-line old a) g) a (omega (arith, length-take-le a old (at′ .fits)))
-
-  -- What an accepted full read says.
-  pub record Accepted (s : List ℕ) (w : List Record) : Type 0 where
-    pub short : length s ≤ 65536
-    pub small : Small s
-    pub reads : fullRead table s ≡ accepted w
-
-  pub accepted-call : (s : List ℕ) (room : ℕ) (w : List Record) → fullCall table s room ≡ gives w → Accepted s w
-  unfolding fullCall lent
-  accepted-call s room w h =
-      let (i, j) = unless-gives (tooLong s) (nowhere 1) (ascii s (listed room (fullRead table s))) w h in
-      let (sm, q) = ascii-gives s (listed room (fullRead table s)) w j in
-      record { short = short-is s i; small = sm; reads = listed-gives room (fullRead table s) w q }
+        w u (small-same (split-line old a) sm) (gives-same table 0 (split-line old a) g) a (omega (arith, length-take-le a old (at′ .fits)))
 
   patched-is : (old : List ℕ) (w : List Record) (a : ℕ) (new : List ℕ) (roomS roomL : ℕ) → beginsLine old a ≡ true → openLine table old a new ≡ false → Small old → fullRead table old ≡ accepted w → length (edited old a new) ≤ roomS
       → patched table old (some w) a new roomS roomL ≡ edits (edited old a new) (listed roomL (fullRead table (edited old a new)))
@@ -288,9 +233,9 @@ module _ (table : List ℕ) (proper : Proper table) where
       → patch table old (listing w) a new roomS roomL ≡ edits (edited old a new) (fullCall table (edited old a new) roomL)
   unfolding patch fullCall lent unless tooLong mostBytes
   demand-3 old w a new room roomS roomL acc h f o r =
-      let A : Accepted old w = accepted-call old room w acc in
+      let A : Accepted table old w = accepted-call table old room w acc in
       let d : decode (listing w) ≡ some w = listing-decodes table proper old w (A .small) (A .short) (A .reads) in
       let i : ltb 65536 (length old) ≡ false = le-ltb 65536 (length old) (A .short) in
       let ed : List ℕ = edited old a new in
       rw (h, f, i, d, patched-is old w a new roomS roomL h o (A .small) (A .reads) r)
-        (sym (edits-unless ed (ltb 65536 (length ed)) (nowhere 1) (ascii ed (listed roomL (fullRead table ed))) ∙ ap (unless (ltb 65536 (length ed)) (nowhere 1)) (edits-ascii ed ed (listed roomL (fullRead table ed)))))
+      (sym (edits-unless ed (ltb 65536 (length ed)) (nowhere 1) (ascii ed (listed roomL (fullRead table ed))) ∙ ap (unless (ltb 65536 (length ed)) (nowhere 1)) (edits-ascii ed ed (listed roomL (fullRead table ed)))))

@@ -20,9 +20,6 @@ use Rattle.rules.proofs.Append.{Begins}
 use Rattle.rules.proofs.Cut.{IsOpen, Lack, mild-or-lack, not-both, open-after, blankRows, rowsFrom, Gives, gives, begins-only, some-row, Then, goes, stands, lacks, sequel, moved, gives-shift, open-moved, moved-open, lineFeed, alone-open, blank-end, blank-gives, blank-split, nothing-gives, endRow}
 use Rattle.rules.specs.Patch.{allEnds, bareLine, nearest}
 
-zero-one : _≡_ {A = ℕ} 0 1 → ⊥
-zero-one h = omega arith
-
 -- lines, each with a line feed
 unfoldable pub whole : List (List ℕ) → List ℕ
 whole [] = []
@@ -33,7 +30,7 @@ unfolding push blankRows
 push-blank x [] h = rw h
 push-blank x (r ∷ rs) h = rw h
 
-ends-rows : (xs : List Lexeme) → blankRows (rows xs) ≡ allEnds xs
+pub ends-rows : (xs : List Lexeme) → blankRows (rows xs) ≡ allEnds xs
 unfolding rows blankRows allEnds
 ends-rows [] = refl
 ends-rows (x ∷ xs) = go (isLineEnd (x .kind)) refl (ends-rows xs)
@@ -79,9 +76,8 @@ module _ (table : List ℕ) where
       go : (b : Bool) → bareLine l ≡ b → b ≡ false
       go false h = refl
       go true h =
-        let (u, e) = blank-gives table (rowsFrom p (l ++ lineFeed)) (some-row p (l ++ lineFeed)) (blank-end p l ∙ bare-blank l ∙ h) g in
-        let z : _≡_ {A = ℕ} 0 1 = cc in
-        absurd (zero-one z)
+          let (u, e) = blank-gives table (rowsFrom p (l ++ lineFeed)) (some-row p (l ++ lineFeed)) (blank-end p l ∙ bare-blank l ∙ h) g in
+          absurd (true≢false cc)
 
   near-step : (p : ℕ) (l : List ℕ) (ls : List (List ℕ)) {x q : Answer State (Unit {0})} → Then table (p + length (l ++ lineFeed)) (whole ls) x q → Gives table p (l ++ lineFeed) x → IsOpen q
       → ((a : Answer State (Unit {0})) → Gives table (p + length (l ++ lineFeed)) (whole ls) a → IsOpen a → Near ls) → Near (l ∷ ls)
@@ -94,11 +90,12 @@ module _ (table : List ℕ) where
     where
       n : ℕ
       n = p + length (l ++ lineFeed)
+
       go : (b : Bool) → blankRows (rowsFrom n (whole ls)) ≡ b → Near (l ∷ ls)
       go true e = record { M = l; found = rw (blank-nearest n ls e, not-bare p l k); opens = open-zero p l (λ b g. alone-open table p l k g o) }
       go false e =
-        let m : Near ls = again _ (gives table n (whole ls)) (i e _ (gives table n (whole ls)) h) in
-        record { M = m .M; found = rw (m .found); opens = m .opens }
+          let m : Near ls = again _ (gives table n (whole ls)) (i e _ (gives table n (whole ls)) h) in
+          record { M = m .M; found = rw (m .found); opens = m .opens }
 
   pub near-open : (p : ℕ) (ls : List (List ℕ)) {a : Answer State (Unit {0})} → Gives table p (whole ls) a → IsOpen a → Near ls
   unfolding whole
@@ -119,8 +116,8 @@ module _ (table : List ℕ) where
   take-apart : {n m : ℕ} {A B : List ℕ} {w : List Record} {u : State} {x q : Answer State (Unit {0})} → Then table m B x q → Gives table n A x → q ≡ done w tt u → (IsOpen x → ⊥) → Parts n m A B w
   unfolding after
   take-apart {w = w} {u} (goes {w = v} {u = t} {q = done v′ a t′} g) k e o = record { first = v; then′ = v′; end = t; end′ = t′; joined = cc; firstly = k; thereupon = g }
-  take-apart (goes {q = refused r} g) k e o = let z : _≡_ {A = ℕ} 0 1 = cc in absurd (zero-one z)
-  take-apart (stands {r} m) k e o = let z : _≡_ {A = ℕ} 0 1 = cc in absurd (zero-one z)
+  take-apart (goes {q = refused r} g) k e o = absurd (true≢false cc)
+  take-apart (stands {r} m) k e o = absurd (true≢false cc)
   take-apart (lacks {r} l i) k e o = absurd (o l)
 
   pub parts : (n : ℕ) (A B : List ℕ) {w : List Record} {u : State} → Lines A → Gives table n (A ++ B) (done w tt u) → ((a : Answer State (Unit {0})) → Gives table n A a → IsOpen a → ⊥) → Parts n (n + length A) A B w
@@ -132,17 +129,17 @@ module _ (table : List ℕ) where
     where
       go : {x y : Answer State (Unit {0})} → Then table (n + length A) B x y → x ≡ done w tt u → y ≡ after w a
       go (goes {w = v} {q = q′} i) e =
-        let z : v ≡ w = cc in
-        let z′ : q′ ≡ a = begins-only table i h in
-        rw (z, z′)
-      go (stands m) e = let z : _≡_ {A = ℕ} 0 1 = cc in absurd (zero-one z)
-      go (lacks m i) e = let z : _≡_ {A = ℕ} 0 1 = cc in absurd (zero-one z)
+          let z : v ≡ w = cc in
+          let z′ : q′ ≡ a = begins-only table i h in
+          rw (z, z′)
+      go (stands m) e = absurd (true≢false cc)
+      go (lacks m i) e = absurd (true≢false cc)
 
   pub refused-whole : (n : ℕ) (A B : List ℕ) {r : Refusal} {q : Answer State (Unit {0})} → Lines A → Gives table n A (refused r) → (Lack r → ⊥) → Gives table n (A ++ B) q → q ≡ refused r
   refused-whole n A B {r} {q} l g o k = go (sequel table n A B l g k) refl
     where
       go : {x y : Answer State (Unit {0})} → Then table (n + length A) B x y → x ≡ refused r → y ≡ refused r
-      go (goes i) e = let z : _≡_ {A = ℕ} 0 1 = cc in absurd (zero-one z)
+      go (goes i) e = absurd (true≢false cc)
       go (stands m) e = e
       go (lacks {r = r′} m i) e = let z : r′ ≡ r = cc in absurd (o (rw z at m))
 
@@ -180,14 +177,13 @@ module _ (table : List ℕ) where
     where
       go : (b : Answer State (Unit {0})) → Gives table 0 s b → (u′ : State) × (a ≡ done (map (moveRecord (λ k. k + q - p)) w) tt u′)
       go (done w0 x u0) i =
-        let y : done (map (moveRecord (λ k. n + k)) w0) x (moveState (λ k. n + k) u0) ≡ done w tt u = begins-only table (gives-shift table n s i) g in
-        let z : a ≡ done (map (moveRecord (λ k. m + k)) w0) x (moveState (λ k. m + k) u0) = begins-only table h (gives-shift table m s i) in
-        let c : w ≡ map (moveRecord (λ k. n + k)) w0 = cc in
-        (moveState (λ k. m + k) u0, z ∙ ap (λ (l : List Record). done l tt (moveState (λ k. m + k) u0)) (sym (ap (map (moveRecord (λ k. k + q - p))) c ∙ moves (λ k. k + q - p) (λ k. n + k) (λ k. m + k) e w0)))
+          let y : done (map (moveRecord (λ k. n + k)) w0) x (moveState (λ k. n + k) u0) ≡ done w tt u = begins-only table (gives-shift table n s i) g in
+          let z : a ≡ done (map (moveRecord (λ k. m + k)) w0) x (moveState (λ k. m + k) u0) = begins-only table h (gives-shift table m s i) in
+          let c : w ≡ map (moveRecord (λ k. n + k)) w0 = cc in
+          (moveState (λ k. m + k) u0, z ∙ ap (λ (l : List Record). done l tt (moveState (λ k. m + k) u0)) (sym (ap (map (moveRecord (λ k. k + q - p))) c ∙ moves (λ k. k + q - p) (λ k. n + k) (λ k. m + k) e w0)))
       go (refused r) i =
-        let y : refused (moveRefusal (λ k. n + k) r) ≡ done w tt u = begins-only table (gives-shift table n s i) g in
-        let z : _≡_ {A = ℕ} 0 1 = cc in
-        absurd (zero-one z)
+          let y : refused (moveRefusal (λ k. n + k) r) ≡ done w tt u = begins-only table (gives-shift table n s i) g in
+          absurd (true≢false cc)
 
   pub gives-same : (p : ℕ) {s t : List ℕ} {a : Answer State (Unit {0})} → s ≡ t → Gives table p s a → Gives table p t a
   gives-same p e g = rw e at g
@@ -223,11 +219,19 @@ module _ (table : List ℕ) where
         let P : Parts p (p + length A) A (L ++ []) w = parts p A (L ++ []) lines g closedA in
         let n : ℕ = p + length A + length (L ++ []) in
         record {
-          kept = P .first; dropped = P .then′; rest = []; u₀ = P .end; u₁ = P .end′; u₂ = enter (endRow n) [];
+          kept = P .first;
+          dropped = P .then′;
+          rest = [];
+          u₀ = P .end;
+          u₁ = P .end′;
+          u₂ = enter (endRow n) [];
           joined = P .joined ∙ ap (λ (l : List Record). P .first ++ l) (sym (append-nil (P .then′)));
-          keeps = P .firstly; drops = P .thereupon; rests = rw (nothing-gives table n (gives table n [])) at (gives table n []);
+          keeps = P .firstly;
+          drops = P .thereupon;
+          rests = rw (nothing-gives table n (gives table n [])) at (gives table n []);
           accepts = λ wN v q i k. (v, compose p A (N ++ []) lines (P .firstly) i k ∙ ap (λ (l : List Record). done (P .first ++ l) tt v) (sym (append-nil wN)));
-          refuses = λ r q i k. compose p A (N ++ []) lines (P .firstly) i k }
+          refuses = λ r q i k. compose p A (N ++ []) lines (P .firstly) i k;
+        }
 
     exchange-feed : (B : List ℕ) → Gives table p (A ++ (L ++ (10 ∷ B))) (done w tt u) → Exchange p A L N (10 ∷ B) w
     unfolding Closed after lineFeed
@@ -235,21 +239,31 @@ module _ (table : List ℕ) where
         let m : ℕ = p + length A in
         let P : Parts p m A (L ++ (10 ∷ B)) w = parts p A (L ++ (10 ∷ B)) lines g closedA in
         let Q : Parts m (m + length (L ++ lineFeed)) (L ++ lineFeed) B (P .then′) =
-          parts m (L ++ lineFeed) B (feed-lines L) (gives-same m (sym (append-assoc L (10 ∷ []) B)) (P .thereupon)) (closed-feed m L closedL) in
+        parts m (L ++ lineFeed) B (feed-lines L) (gives-same m (sym (append-assoc L (10 ∷ []) B)) (P .thereupon)) (closed-feed m L closedL) in
         let b : Answer State (Unit {0}) = readRows table (suc (length B)) (rowsFrom (m + length (N ++ lineFeed)) B) in
         let c : Answer State (Unit {0}) = readRows table (suc (length (N ++ (10 ∷ B)))) (rowsFrom m (N ++ (10 ∷ B))) in
         let c-gives : Gives table m ((N ++ lineFeed) ++ B) c = gives-same m (sym (append-assoc N (10 ∷ []) B)) (gives table m (N ++ (10 ∷ B))) in
         record {
-          kept = P .first; dropped = Q .first; rest = Q .then′; u₀ = P .end; u₁ = Q .end; u₂ = Q .end′;
+          kept = P .first;
+          dropped = Q .first;
+          rest = Q .then′;
+          u₀ = P .end;
+          u₁ = Q .end;
+          u₂ = Q .end′;
           joined = P .joined ∙ ap (λ (l : List Record). P .first ++ l) (Q .joined);
-          keeps = P .firstly; drops = Q .firstly; rests = Q .thereupon;
+          keeps = P .firstly;
+          drops = Q .firstly;
+          rests = Q .thereupon;
           accepts = λ wN v q i k.
-            let (v′, e) = rest-moves (m + length (L ++ lineFeed)) (m + length (N ++ lineFeed)) (length L) (length N)
-              (λ k. omega (arith, length-append L (10 ∷ []), length-append N (10 ∷ []))) B (Q .thereupon) (gives table (m + length (N ++ lineFeed)) B) in
-            (v′, compose p A (N ++ (10 ∷ B)) lines (P .firstly) (gives table m (N ++ (10 ∷ B))) k
-              ∙ ap (after (P .first)) (compose m (N ++ lineFeed) B (feed-lines N) i (gives table (m + length (N ++ lineFeed)) B) c-gives ∙ ap (after wN) e));
+              let (v′, e) = rest-moves (m + length (L ++ lineFeed)) (m + length (N ++ lineFeed)) (length L) (length N)
+              (λ k. omega (arith, length-append L (10 ∷ []), length-append N (10 ∷ []))) B (Q .thereupon) (gives table (m + length (N ++ lineFeed)) B) in (
+                v′,
+                compose p A (N ++ (10 ∷ B)) lines (P .firstly) (gives table m (N ++ (10 ∷ B))) k
+                    ∙ ap (after (P .first)) (compose m (N ++ lineFeed) B (feed-lines N) i (gives table (m + length (N ++ lineFeed)) B) c-gives ∙ ap (after wN) e),
+              );
           refuses = λ r q i k. compose p A (N ++ (10 ∷ B)) lines (P .firstly) (gives table m (N ++ (10 ∷ B))) k
-              ∙ ap (after (P .first)) (refused-whole m (N ++ lineFeed) B (feed-lines N) i (closed-feed m N closedN (refused r) i) c-gives) }
+              ∙ ap (after (P .first)) (refused-whole m (N ++ lineFeed) B (feed-lines N) i (closed-feed m N closedN (refused r) i) c-gives);
+        }
 
     pub exchange : {B : List ℕ} → Behind B → Gives table p (A ++ (L ++ B)) (done w tt u) → Exchange p A L N B w
     exchange nothing g = exchange-last g

@@ -155,9 +155,9 @@ no-mark n c op g h = go (eqb c n) refl
     go : (e : Bool) → eqb c n ≡ e → e ≡ false
     go false i = refl
     go true i =
-      let j : c ≡ n = eqb-true c n i in
-      let k : _≡_ {A = Option ℕ} none (some op) = sym g ∙ ap (λ (n : ℕ). operatorOf (mark n)) (sym j) ∙ h in
-      absurd (no-operator op k)
+        let j : c ≡ n = eqb-true c n i in
+        let k : _≡_ {A = Option ℕ} none (some op) = sym g ∙ ap (λ (n : ℕ). operatorOf (mark n)) (sym j) ∙ h in
+        absurd (no-operator op k)
 
 no-open : (c op : ℕ) → operatorOf (mark c) ≡ some op → isMark "(" (mark c) ≡ false
 unfolding isMark is
@@ -187,9 +187,12 @@ module _ (d l : ℕ) (z : Lexeme) (rest : List Lexeme) (b : Behind z) (f t : ℕ
   parens-read : (f′ t′ : ℕ) (x : Lexeme) (xs : List Lexeme) (w : List Record) → refusedAs (x .kind) ≡ none → Done d 0 x xs w
       → primary (expr d) (on l (tok f t (mark 40)) (x ∷ (xs ++ (tok f′ t′ (mark 41) ∷ z ∷ rest)))) ≡ done w tt (on t′ z rest)
   unfolding openText primary isMark ahead kind expect _>>=_ _>>_ thence refusedAs after
-  parens-read f′ t′ x xs w h g = rw (next-step l (tok f t (mark 40)) x (xs ++ (tok f′ t′ (mark 41) ∷ z ∷ rest)) h,
-      g t (tok f′ t′ (mark 41)) (z ∷ rest) (record { fine = refl; no-dollar = refl }) (λ op j. absurd (no-operator op (sym close-none ∙ j))),
-      next-step (final x xs .to) (tok f′ t′ (mark 41)) z rest (b .fine), append-nil w)
+  parens-read f′ t′ x xs w h g = rw (
+    next-step l (tok f t (mark 40)) x (xs ++ (tok f′ t′ (mark 41) ∷ z ∷ rest)) h,
+    g t (tok f′ t′ (mark 41)) (z ∷ rest) (record { fine = refl; no-dollar = refl }) (λ op j. absurd (no-operator op (sym close-none ∙ j))),
+    next-step (final x xs .to) (tok f′ t′ (mark 41)) z rest (b .fine),
+    append-nil w,
+  )
 
   prefix-read : (c op : ℕ) (x : Lexeme) (xs : List Lexeme) (w : List Record) → operatorOf (mark c) ≡ some op → op < 2 → refusedAs (x .kind) ≡ none → Done d prefixLevel x xs w
       → ((op : ℕ) → operatorOf (z .kind) ≡ some op → leftLevel op < prefixLevel)
@@ -237,13 +240,20 @@ join : (d p level l : ℕ) (x o y z : Lexeme) (xs ys rest : List Lexeme) (op : �
     → Body d level (x .from) (on l x (xs ++ (o ∷ y ∷ (ys ++ (z ∷ rest))))) ≡ after w (infixes n (expr d) level (x .from) (on (final x xs .to) o (y ∷ (ys ++ (z ∷ rest)))))
     → expr d (rightLevel op) (on (o .to) y (ys ++ (z ∷ rest))) ≡ done v tt (on (final y ys .to) z rest)
     → (n : ℕ) × (length rest ≤ n) × (Body d level (x .from) (on l x ((xs ++ (o ∷ y ∷ ys)) ++ (z ∷ rest)))
-        ≡ after (w ++ (v ++ (IN (x .from) (final y ys .to) op ∷ []))) (infixes n (expr d) level (x .from) (on (final x (xs ++ (o ∷ y ∷ ys)) .to) z rest)))
+    ≡ after (w ++ (v ++ (IN (x .from) (final y ys .to) op ∷ []))) (infixes n (expr d) level (x .from) (on (final x (xs ++ (o ∷ y ∷ ys)) .to) z rest)))
 join d p level l x o y z xs ys rest op w v zero h i j k e r = absurd (not-suc-le-zero k)
-join d p level l x o y z xs ys rest op w v (suc n) h i j k e r =
-    (n, omega (arith, length-append ys (z ∷ rest)),
-      rw (append-assoc xs (o ∷ y ∷ ys) (z ∷ rest), final-append x xs o (y ∷ ys), final-two o y ys, e,
-        turn n (expr d) level (x .from) op o (final x xs .to) y (ys ++ (z ∷ rest)) v (on (final y ys .to) z rest) h i j r)
-      (after-after w (v ++ (IN (x .from) (final y ys .to) op ∷ [])) _))
+join d p level l x o y z xs ys rest op w v (suc n) h i j k e r = (
+  n,
+  omega (arith, length-append ys (z ∷ rest)),
+  rw (
+    append-assoc xs (o ∷ y ∷ ys) (z ∷ rest),
+    final-append x xs o (y ∷ ys),
+    final-two o y ys,
+    e,
+    turn n (expr d) level (x .from) op o (final x xs .to) y (ys ++ (z ∷ rest)) v (on (final y ys .to) z rest) h i j r,
+  )
+      (after-after w (v ++ (IN (x .from) (final y ys .to) op ∷ [])) _),
+)
 
 pub complete : {d p : ℕ} {x : Lexeme} {xs : List Lexeme} {w : List Record} → Gram d p x xs w → Goes d p x xs w
 unfolding final
@@ -254,13 +264,13 @@ complete (place {d} {p} {f} {t}) = unit d p (tok f t (mark 36)) [] (VI f t ∷ [
 complete (section {d} {p} {f} {t} {f′} {t′}) = unit d p (tok f t (mark 36)) (tok f′ t′ (mark 36) ∷ []) (VS f t ∷ []) (λ l z rest b. section-read d l z rest b f t f′ t′)
 complete (parens {d} {p} {f} {t} f′ t′ {x} {xs} {w} g) = unit d p (tok f t (mark 40)) (x ∷ (xs ++ (tok f′ t′ (mark 41) ∷ []))) w
     (λ l z rest b. rw (append-assoc xs (tok f′ t′ (mark 41) ∷ []) (z ∷ rest), final-append x xs (tok f′ t′ (mark 41)) [])
-      (parens-read d l z rest b f t f′ t′ x xs w (first-fine g) (finish d 0 x xs w (complete g))))
+    (parens-read d l z rest b f t f′ t′ x xs w (first-fine g) (finish d 0 x xs w (complete g))))
 complete (prefix {d} {p} {f} {t} {c} {op} {x} {xs} {w} h i g) = unit d p (tok f t (mark c)) (x ∷ xs) (w ++ (PF f (final x xs .to) op ∷ []))
     (λ l z rest b. prefix-read d l z rest b f t c op x xs w h i (first-fine g) (finish d prefixLevel x xs w (complete g)) (λ q _. loose q))
 complete (infix′ {d} {p} {op} f t c {x} {y} {xs} {ys} {w} {v} h i g g′) = λ level l z rest j b e.
     let (n, k, q) = complete g level l (tok f t (mark c)) (y ∷ (ys ++ (z ∷ rest))) (le-trans j i) (operator-behind f t c op h) (λ r u. le-of-eq (ap leftLevel (some-inj (sym u ∙ h)))) in
     join d p level l x (tok f t (mark c)) y z xs ys rest op w v n h (le-trans j i) (first-fine g′) k q
-      (finish d (rightLevel op) y ys v (complete g′) t z rest b (λ r u. le-trans (suc-le-suc (le-trans (e r u) i)) (left-right op)))
+    (finish d (rightLevel op) y ys v (complete g′) t z rest b (λ r u. le-trans (suc-le-suc (le-trans (e r u) i)) (left-right op)))
 
 pub reader-complete : {d p : ℕ} {x : Lexeme} {xs : List Lexeme} {w : List Record} → Gram d p x xs w → Done d p x xs w
 reader-complete {d} {p} {x} {xs} {w} g = finish d p x xs w (complete g)
@@ -398,7 +408,11 @@ module _ (d l f t : ℕ) where
   second-dollar c h ys y zs i j true k =
       let m : y .kind ≡ mark 36 = mark-kind (y .kind) k in
       next-then (write (VS f t)) t y zs (mark-inside y 36 m) j (λ y′ zs′ i′ j′. holds {w = VS f t ∷ []} (record {
-        xs = y ∷ []; split = i ∙ ap (λ (r : List Lexeme). y ∷ r) i′; lasts = refl; reads = λ p. rw (h, by-kind y (mark 36) m) section }))
+        xs = y ∷ [];
+        split = i ∙ ap (λ (r : List Lexeme). y ∷ r) i′;
+        lasts = refl;
+        reads = λ p. rw (h, by-kind y (mark 36) m) section;
+      }))
   second-dollar c h ys y zs i j false k = holds {w = VI f t ∷ []} (record { xs = []; split = i; lasts = refl; reads = λ p. rw h place })
 
   dollar-sound : (c : ℕ) (ys : List Lexeme) → Ended (tok f t (mark c)) ys → (b : Bool) → eqb c 36 ≡ b
@@ -450,7 +464,8 @@ module _ (d l f t c : ℕ) (ys : List Lexeme) where
         xs = q .y ∷ (xs′ ++ (s .here ∷ []));
         split = q .behind ∙ ap (λ (r : List Lexeme). q .y ∷ r) (q .passed′ .split ∙ ap (λ (r : List Lexeme). xs′ ++ (s .here ∷ r)) i ∙ sym (append-assoc xs′ (s .here ∷ []) (z ∷ zs)));
         lasts = ap (λ (x : Lexeme). x .to) (sym (final-append (q .y) xs′ (s .here) []));
-        reads = λ p. rw (append-nil w, h, by-kind (s .here) (mark 41) m) (parens (s .here .from) (s .here .to) (q .passed′ .reads)) })
+        reads = λ p. rw (append-nil w, h, by-kind (s .here) (mark 41) m) (parens (s .here .from) (s .here .to) (q .passed′ .reads));
+      })
 
   parens-sound : c ≡ 40 → ExprSound d → Ended (tok f t (mark c)) ys → Post (λ w _ s. Began d (tok f t (mark c)) ys w s) ((next >> expr d 0 >> expect ")" 14) (on l (tok f t (mark c)) ys))
   unfolding _>>_ _>>=_ expect kind thence isLineEnd
@@ -458,12 +473,16 @@ module _ (d l f t c : ℕ) (ys : List Lexeme) where
 
   prefix-sound : (op : ℕ) → operatorOf (mark c) ≡ some op → ExprSound d → Ended (tok f t (mark c)) ys → (b : Bool) → ltb op 2 ≡ b
       → Post (λ w _ s. Began d (tok f t (mark c)) ys w s)
-        ((next >> ((if b then (expr d prefixLevel) else (refuse (nowhere 22))) >> (passed >>= λ r. write (PF f r op)))) (on l (tok f t (mark c)) ys))
+      ((next >> ((if b then (expr d prefixLevel) else (refuse (nowhere 22))) >> (passed >>= λ r. write (PF f r op)))) (on l (tok f t (mark c)) ys))
   unfolding ExprSound _>>_ _>>=_ thence passed write after final refuse isLineEnd
   prefix-sound op h g e false k = next-then _ l (tok f t (mark c)) ys refl e (λ y zs i j. fails)
   prefix-sound op h g e true k = next-then _ l (tok f t (mark c)) ys refl e (λ y zs i j. thence-post (g prefixLevel t y zs j) (λ w a s q.
       holds {w = PF f (s .last) op ∷ []} (record {
-        xs = y ∷ q .xs; split = i ∙ ap (λ (r : List Lexeme). y ∷ r) (q .split); lasts = q .lasts; reads = λ p. rw (q .lasts) (prefix h (ltb-true op 2 k) (q .reads)) })))
+        xs = y ∷ q .xs;
+        split = i ∙ ap (λ (r : List Lexeme). y ∷ r) (q .split);
+        lasts = q .lasts;
+        reads = λ p. rw (q .lasts) (prefix h (ltb-true op 2 k) (q .reads));
+      })))
 
   operator-sound : ExprSound d → Ended (tok f t (mark c)) ys → (o : Option ℕ) → operatorOf (mark c) ≡ o
       → Post (λ w _ s. Began d (tok f t (mark c)) ys w s) (maybe o atom (λ op. (next >> ((if ltb op 2 then (expr d prefixLevel) else (refuse (nowhere 22))) >> (passed >>= λ r. write (PF f r op))))) (on l (tok f t (mark c)) ys))
@@ -473,7 +492,7 @@ module _ (d l f t c : ℕ) (ys : List Lexeme) where
 
   mark-sound : ExprSound d → Ended (tok f t (mark c)) ys → (b : Bool) → eqb c 40 ≡ b
       → Post (λ w _ s. Began d (tok f t (mark c)) ys w s) (if_then_else_ {A = Reader Line (Unit {0})} b (next >> expr d 0 >> expect ")" 14)
-          (maybe (operatorOf (mark c)) atom (λ op. (next >> ((if ltb op 2 then (expr d prefixLevel) else (refuse (nowhere 22))) >> (passed >>= λ r. write (PF f r op)))))) (on l (tok f t (mark c)) ys))
+      (maybe (operatorOf (mark c)) atom (λ op. (next >> ((if ltb op 2 then (expr d prefixLevel) else (refuse (nowhere 22))) >> (passed >>= λ r. write (PF f r op)))))) (on l (tok f t (mark c)) ys))
   mark-sound g e true h = parens-sound (eqb-true c 40 h) g e
   mark-sound g e false h = operator-sound g e (operatorOf (mark c)) refl
 
@@ -563,7 +582,8 @@ module _ (n d p : ℕ) (g : ExprSound d) (again : LoopSound n d p) (x : Lexeme) 
         split = ap (λ (l : List Lexeme). r .here ∷ l) (h ∙ ap (λ (l : List Lexeme). y ∷ l) (q .split ∙ ap (λ (l : List Lexeme). q .xs ++ l) (k .split) ∙ sym (append-assoc (q .xs) (k .zs) (t .here ∷ t .more))));
         lasts = rw (append-assoc xs A (k .zs)) at (k .lasts);
         reads = rw (append-assoc xs A (k .zs), append-assoc w (v ++ (IN (x .from) (s .last) op ∷ [])) v′, append-assoc v (IN (x .from) (s .last) op ∷ []) v′) at (k .reads);
-        stop = k .stop }
+        stop = k .stop;
+      }
 
   round : (y : Lexeme) (zs : List Lexeme) → r .more ≡ y ∷ zs → Ended y zs → (v : List Record) (s : Line) → Passed d (rightLevel op) y zs v s
       → Post (λ v′ _ t. Looped d p x xs (w ++ (v ++ v′)) r t) ((passed >>= λ t. (write (IN (x .from) t op) >> infixes n (expr d) p (x .from))) s)
@@ -572,8 +592,8 @@ module _ (n d p : ℕ) (g : ExprSound d) (again : LoopSound n d p) (x : Lexeme) 
       let ys : List Lexeme = q .xs in
       let long : length (r .more) ≡ suc (length ys + suc (length (s .more))) = ap length h ∙ ap suc (ap length (q .split) ∙ length-append ys (s .here ∷ s .more)) in
       strip (after-post (IN (x .from) (s .last) op ∷ []) (post-map (λ v′ _ t k. widened y zs h v s q v′ t k)
-        (again x (xs ++ (r .here ∷ y ∷ ys)) (w ++ (v ++ (IN (x .from) (s .last) op ∷ []))) s (omega arith) (ended-suffix y ys (s .here) (s .more) (rw (q .split) at j))
-          (q .lasts ∙ ap (λ (z : Lexeme). z .to) (sym (final-append x xs (r .here) (y ∷ ys) ∙ final-two (r .here) y ys))) (joined y v ys (s .last) p b (q .lasts) (q .reads)) (λ op′ u. joined y v ys (s .last) (leftLevel op′) (omega (arith, q .stop op′ u, right-suc op)) (q .lasts) (q .reads)))))
+      (again x (xs ++ (r .here ∷ y ∷ ys)) (w ++ (v ++ (IN (x .from) (s .last) op ∷ []))) s (omega arith) (ended-suffix y ys (s .here) (s .more) (rw (q .split) at j))
+      (q .lasts ∙ ap (λ (z : Lexeme). z .to) (sym (final-append x xs (r .here) (y ∷ ys) ∙ final-two (r .here) y ys))) (joined y v ys (s .last) p b (q .lasts) (q .reads)) (λ op′ u. joined y v ys (s .last) (leftLevel op′) (omega (arith, q .stop op′ u, right-suc op)) (q .lasts) (q .reads)))))
 
 Turn : ℕ → ℕ → ℕ → ℕ → ℕ → Reader Line (Unit {0})
 Turn n d p f op = next >> (expr d (rightLevel op) >> (passed >>= λ t. (write (IN f t op) >> infixes n (expr d) p f)))
@@ -588,7 +608,7 @@ module _ (n d p : ℕ) (g : ExprSound d) (again : LoopSound n d p) (x : Lexeme) 
   turned op a false h =
       let (c, z) = operator-mark (r .here .kind) op a in
       next-then _ (r .last) (r .here) (r .more) (mark-inside (r .here) c z) e (λ y zs j k. thence-post (g (rightLevel op) (r .here .to) y zs k)
-        (λ v _ s q. round n d p g again x xs w r i e op a (ltb-false (leftLevel op) p h) (o op a) y zs j k v s q))
+      (λ v _ s q. round n d p g again x xs w r i e op a (ltb-false (leftLevel op) p h) (o op a) y zs j k v s q))
 
   looked : (q : Option ℕ) → operatorOf (r .here .kind) ≡ q
       → Post (λ v _ s. Looped d p x xs (w ++ v) r s) (maybe q (return tt) (λ op. if ltb (leftLevel op) p then (return tt) else (Turn n d p (x .from) op)) r)
@@ -608,5 +628,9 @@ unfolding ExprSound expr refuseHere ahead left _>>=_ _>>_ thence LoopSound
 expr-sound zero p l x ys e = fails
 expr-sound (suc d) p l x ys e = strip (thence-post (primary-sound d l (x .from) (x .to) (x .kind) ys (expr-sound d) e)
     (λ w _ s q. strip (post-map (λ v _ t k. record {
-        xs = q .xs ++ k .zs; split = q .split ∙ ap (λ (l : List Lexeme). q .xs ++ l) (k .split) ∙ sym (append-assoc (q .xs) (k .zs) (t .here ∷ t .more));
-        lasts = k .lasts; reads = k .reads; stop = k .stop }) (loop-sound (length (s .more)) d p (expr-sound d) x (q .xs) w s (le-refl (length (s .more))) (ended-suffix x (q .xs) (s .here) (s .more) (rw (q .split) at e)) (q .lasts) (q .reads p) (λ op u. q .reads (leftLevel op))))))
+      xs = q .xs ++ k .zs;
+      split = q .split ∙ ap (λ (l : List Lexeme). q .xs ++ l) (k .split) ∙ sym (append-assoc (q .xs) (k .zs) (t .here ∷ t .more));
+      lasts = k .lasts;
+      reads = k .reads;
+      stop = k .stop;
+    }) (loop-sound (length (s .more)) d p (expr-sound d) x (q .xs) w s (le-refl (length (s .more))) (ended-suffix x (q .xs) (s .here) (s .more) (rw (q .split) at e)) (q .lasts) (q .reads p) (λ op u. q .reads (leftLevel op))))))

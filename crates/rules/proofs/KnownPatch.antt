@@ -31,25 +31,25 @@ cases =
     -- the reader is cut off behind the new line's line feed
     case "a\n0abh" (ST 0 ∷ LL 0 1 ∷ []) 0 "in" 1000 (become "in\n0abh" (ST 0 ∷ LI 0 2 4 0 2 2 ∷ []))
     -- statements below, in and behind the line
-  ∷ case "a\nb:c\nd" (ST 0 ∷ LL 0 1 ∷ ST 2 ∷ LL 2 3 ∷ ST 4 ∷ LL 4 5 ∷ ST 6 ∷ LL 6 7 ∷ []) 2 "equ 1" 1000
-      (become "a\nequ 1\nd" (ST 0 ∷ LL 0 1 ∷ ST 2 ∷ VC 6 7 1 ∷ LC 2 7 ∷ ST 8 ∷ LL 8 9 ∷ []))
+    ∷ case "a\nb:c\nd" (ST 0 ∷ LL 0 1 ∷ ST 2 ∷ LL 2 3 ∷ ST 4 ∷ LL 4 5 ∷ ST 6 ∷ LL 6 7 ∷ []) 2 "equ 1" 1000
+    (become "a\nequ 1\nd" (ST 0 ∷ LL 0 1 ∷ ST 2 ∷ VC 6 7 1 ∷ LC 2 7 ∷ ST 8 ∷ LL 8 9 ∷ []))
     -- any well-formed listing
-  ∷ case "a\nbbbb" (ST 0 ∷ LL 0 6 ∷ []) 2 "" 1000 (become "a\n" (ST 0 ∷ LL 0 6 ∷ []))
+    ∷ case "a\nbbbb" (ST 0 ∷ LL 0 6 ∷ []) 2 "" 1000 (become "a\n" (ST 0 ∷ LL 0 6 ∷ []))
     -- 40 comes before the reading; a line above counts past blank lines and comments
-  ∷ case "times 2\nb" (ST 0 ∷ VC 6 7 2 ∷ LL 8 9 ∷ LT ∷ []) 8 "equ *" 1000 (refuses (nowhere 40))
-  ∷ case "times 2\n;c\n b" [] 11 "b" 1000 (refuses (nowhere 40))
-  ∷ case ";times 2\nb" (ST 9 ∷ LL 9 10 ∷ []) 9 "c" 1000 (become ";times 2\nc" (ST 9 ∷ LL 9 10 ∷ []))
-  ∷ case "b" (ST 0 ∷ LL 0 1 ∷ []) 0 "times 1 times 1 times 1 times 1 times 1 times 1 times 1 times 1 times 1 times 1 times 1 times 1 times 1 times 1 times 1 times 1" 1000 (refuses (nowhere 40))
-  ∷ case "b" (ST 0 ∷ LL 0 1 ∷ []) 0 "times 1 times 1 times 1 times 1 times 1 times 1 times 1 times 1 times 1 times 1 times 1 times 1 times 1 times 1 times 1 times 1 times 1" 1000 (refuses (at 5 128 133))
+    ∷ case "times 2\nb" (ST 0 ∷ VC 6 7 2 ∷ LL 8 9 ∷ LT ∷ []) 8 "equ *" 1000 (refuses (nowhere 40))
+    ∷ case "times 2\n;c\n b" [] 11 "b" 1000 (refuses (nowhere 40))
+    ∷ case ";times 2\nb" (ST 9 ∷ LL 9 10 ∷ []) 9 "c" 1000 (become ";times 2\nc" (ST 9 ∷ LL 9 10 ∷ []))
+    ∷ case "b" (ST 0 ∷ LL 0 1 ∷ []) 0 "times 1 times 1 times 1 times 1 times 1 times 1 times 1 times 1 times 1 times 1 times 1 times 1 times 1 times 1 times 1 times 1" 1000 (refuses (nowhere 40))
+    ∷ case "b" (ST 0 ∷ LL 0 1 ∷ []) 0 "times 1 times 1 times 1 times 1 times 1 times 1 times 1 times 1 times 1 times 1 times 1 times 1 times 1 times 1 times 1 times 1 times 1" 1000 (refuses (at 5 128 133))
     -- the other refusals, in order
-  ∷ case "ab" [] 1 "c" 1000 (refuses (nowhere 42))
-  ∷ case "ab\n" [] 3 "c\nd" 1000 (refuses (nowhere 43))
-  ∷ case "ab" (ST 0 ∷ []) 0 "c" 1000 (refuses (nowhere 41))
-  ∷ case "ab" (ST 0 ∷ LL 0 3 ∷ []) 0 "c" 1000 (refuses (nowhere 41))
-  ∷ case "ab\n" (ST 0 ∷ LL 0 2 ∷ []) 3 "c *" 1000 (refuses (at 20 5 6))
-  ∷ case "ab\n" (ST 0 ∷ LL 0 2 ∷ []) 3 "c" 3 (refuses (nowhere 6))
-  ∷ case "ab\n" (ST 0 ∷ LL 0 2 ∷ []) 3 "c" 4 (refuses (nowhere 4))
-  ∷ []
+    ∷ case "ab" [] 1 "c" 1000 (refuses (nowhere 42))
+    ∷ case "ab\n" [] 3 "c\nd" 1000 (refuses (nowhere 43))
+    ∷ case "ab" (ST 0 ∷ []) 0 "c" 1000 (refuses (nowhere 41))
+    ∷ case "ab" (ST 0 ∷ LL 0 3 ∷ []) 0 "c" 1000 (refuses (nowhere 41))
+    ∷ case "ab\n" (ST 0 ∷ LL 0 2 ∷ []) 3 "c *" 1000 (refuses (at 20 5 6))
+    ∷ case "ab\n" (ST 0 ∷ LL 0 2 ∷ []) 3 "c" 3 (refuses (nowhere 6))
+    ∷ case "ab\n" (ST 0 ∷ LL 0 2 ∷ []) 3 "c" 4 (refuses (nowhere 4))
+    ∷ []
 
 unfoldable pub Patches : List Case → Type 0
 Patches [] = Unit {0}
@@ -68,10 +68,10 @@ pub record Read : Type 0 where
 unfoldable pub reads : List Read
 reads =
     record { source = "a: b"; place = 2; answer = gives (found (ST 3 ∷ LL 3 4 ∷ []) 4) }
-  ∷ record { source = "nop\n0abh"; place = 0; answer = refuses (at 30 4 7) }
-  ∷ record { source = " ;x\n "; place = 0; answer = gives nothing }
-  ∷ record { source = "a"; place = 2; answer = refuses (nowhere 42) }
-  ∷ []
+    ∷ record { source = "nop\n0abh"; place = 0; answer = refuses (at 30 4 7) }
+    ∷ record { source = " ;x\n "; place = 0; answer = gives nothing }
+    ∷ record { source = "a"; place = 2; answer = refuses (nowhere 42) }
+    ∷ []
 
 unfoldable pub Statements : List Read → Type 0
 Statements [] = Unit {0}

@@ -12,6 +12,7 @@ pub mod Depth
 pub mod Append
 pub mod Progress
 pub mod Grammar
+pub mod Hoare
 pub mod Shape
 pub mod ShapeState
 pub mod LexSound
@@ -21,6 +22,8 @@ pub mod CostState
 pub mod Cut
 pub mod Exchange
 pub mod Listing
+pub mod Calls
+pub mod Forward
 pub mod Demand3
 pub mod Bound
 pub mod KnownPatch

@@ -19,7 +19,8 @@ use Rattle.rules.specs.WellFormed.{Stack, allow, complete, spans, given,
 use Rattle.rules.specs.Patch.{statementFrom}
 use Rattle.rules.proofs.Table.{Proper}
 use Rattle.rules.proofs.Append.{Reads, Begins, fine, broken}
-use Rattle.rules.proofs.Shape.{Extra, Small, Chain, chain-low, Run, nil, cons, On}
+use Rattle.rules.proofs.Hoare.{Run, nil, cons}
+use Rattle.rules.proofs.Shape.{Small, Chain, chain-low, Checks, On}
 use Rattle.rules.proofs.ShapeState.{flat, OnS, Ready, Stated, began, ended, failed, statement-stated}
 use Rattle.rules.proofs.LexSound.{chain-plain, chain-feed, flat-rows}
 use Rattle.rules.proofs.Cut.{rowsFrom, Gives, lineFeed, accepts-run}
@@ -68,12 +69,11 @@ module _ (a b : ℕ) (h : a ≤ b) where
   from-mono (LC p q) e = refl
   from-mono LT e = refl
 
-
 extras-append : (w v : List Record) → Extras w → Extras v → Extras (w ++ v)
 extras-append [] v h i = i
 extras-append (r ∷ rs) v h i = (h .0, extras-append rs v (h .1) i)
 
-fresh-ready : (lo : ℕ) → Ready lo fresh
+pub fresh-ready : (lo : ℕ) → Ready lo fresh
 unfolding fresh complete
 fresh-ready lo = record { done′ = refl; from′ = zero-le }
 
@@ -81,80 +81,87 @@ flat-from : (p : ℕ) (s : List ℕ) → flat (rowsFrom p s) ≡ tokensFrom p 0 
 unfolding rowsFrom
 flat-from p s = flat-rows (tokensFrom p 0 s)
 
-chain-same : (n hi lo : ℕ) {xs ys : List Lexeme} → xs ≡ ys → Chain n hi lo xs → Chain n hi lo ys
-chain-same n hi lo e c = rw e at c
+pub chain-rows : (n hi lo p : ℕ) (s : List ℕ) {l : List Row} → rowsFrom p s ≡ l → Chain n hi lo (tokensFrom p 0 s) → Chain n hi lo (flat l)
+chain-rows n hi lo p s e c = rw (← e, flat-from p s) c
+
+module _ (n hi : ℕ) where
+  run-checked : {k k′ : Stack} {w : List Record} (v : List Record) → Run (Checks n) k w k′ → checkedAll n k (w ++ v) ≡ checkedAll n k′ v
+  unfolding checkedAll
+  run-checked v nil = refl
+  run-checked v (cons c r) = rw (c .checks) (run-checked v r)
+
+  run-inner : {k k′ : Stack} {w : List Record} → Run (Checks n) k w k′ → Inner hi w
+  run-inner nil = tt
+  run-inner (cons {r = r} c g) = (from-mono 0 hi zero-le r (c .inner), run-inner g)
+
+  run-extras : {k k′ : Stack} {w : List Record} → Run (Checks n) k w k′ → Extras w
+  run-extras nil = tt
+  run-extras (cons c g) = (c .extra, run-extras g)
+
+  pub record Fits (lo : ℕ) (κ : Stack) (w : List Record) : Type 0 where
+    pub top : Stack
+    pub checks : checkedAll n κ w ≡ some top
+    pub whole : complete top ≡ true
+    pub headed : Headed lo w
+    pub inner : Inner hi w
+    pub extras : Extras w
+
+  pub data Listed (lo : ℕ) (κ : Stack) : Answer State (Unit {0}) → Type 0 where
+    listed : {w : List Record} {u : State} → Fits lo κ w → Listed lo κ (done w tt u)
+    unlisted : {r : Refusal} → Listed lo κ (refused r)
+
+  none-more : (lo : ℕ) (κ : Stack) → Ready lo κ → Fits lo κ []
+  unfolding checkedAll
+  none-more lo κ y = record { top = κ; checks = refl; whole = y .done′; headed = tt; inner = tt; extras = tt }
+
+  first-fits : (lo q lo′ : ℕ) (κ κ₁ κ′ : Stack) (v w : List Record) → lo ≤ q → q < hi → checked n κ (ST q) ≡ some κ₁ → Run (Checks n) κ₁ v κ′ → Fits lo′ κ′ w → Fits lo κ (ST q ∷ (v ++ w))
+  unfolding checkedAll statementFrom
+  first-fits lo q lo′ κ κ₁ κ′ v w i j e r f = record {
+    top = f .top;
+    checks = rw e (run-checked w r ∙ f .checks);
+    whole = f .whole;
+    headed = le-leb lo q i;
+    inner = (lt-leb hi q j, inner-append hi v w (run-inner r) (f .inner));
+    extras = (tt, extras-append v w (run-extras r) (f .extras));
+  }
+
+  with-first : (lo q lo′ : ℕ) (κ κ₁ κ′ : Stack) (v : List Record) → lo ≤ q → q < hi → checked n κ (ST q) ≡ some κ₁ → Run (Checks n) κ₁ v κ′ → {p : Answer State (Unit {0})} → Listed lo′ κ′ p → Listed lo κ (after (ST q ∷ v) p)
+  unfolding after
+  with-first lo q lo′ κ κ₁ κ′ v i j e r (listed {w} f) = listed (first-fits lo q lo′ κ κ₁ κ′ v w i j e r f)
+  with-first lo q lo′ κ κ₁ κ′ v i j e r unlisted = unlisted
+
+  stop-listed : (lo : ℕ) (κ : Stack) {w : List Record} {t : State} → Ready lo κ → Stated n hi lo κ (done w false t) → Listed lo κ (done w tt t)
+  stop-listed lo κ y ended = listed (none-more lo κ y)
+
+  go-listed : (lo : ℕ) (κ : Stack) {w : List Record} {t : State} {p : Answer State (Unit {0})} → ((lo′ : ℕ) (κ′ : Stack) → Ready lo′ κ′ → OnS n hi 0 lo′ 0 κ′ κ′ t → Listed lo′ κ′ p)
+      → Stated n hi lo κ (done w true t) → Listed lo κ (after w p)
+  go-listed lo κ again (began {q} {lo′} {v} {κ₁ = κ₁} {κ′} i j l e r y o) = with-first lo q lo′ κ κ₁ κ′ v i j e r (again lo′ κ′ y o)
+
+  pub enter-on : (lo : ℕ) (κ : Stack) (r : Row) (rs : List Row) → Chain n hi lo (flat (r ∷ rs)) → OnS n hi 0 lo 0 κ κ (enter r rs)
+  unfolding enter firstOf
+  enter-on lo κ r rs c = record { same = refl; low = c .0; gap = le-refl (r .first .from); soon = zero-le; chain = chain-low n hi lo 0 (flat (r ∷ rs)) zero-le c }
+
+  fits : (lo : ℕ) (κ : Stack) {w : List Record} {u : State} → Listed lo κ (done w tt u) → Fits lo κ w
+  fits lo κ (listed f) = f
 
 module _ (table : List ℕ) (proper : Proper table) where
   module _ (n hi : ℕ) where
-    run-checked : {k k′ : Stack} {w : List Record} (v : List Record) → Run n k w k′ → checkedAll n k (w ++ v) ≡ checkedAll n k′ v
-    unfolding checkedAll
-    run-checked v nil = refl
-    run-checked v (cons a x e r) = rw e (run-checked v r)
-
-    run-inner : {k k′ : Stack} {w : List Record} → Run n k w k′ → Inner hi w
-    run-inner nil = tt
-    run-inner (cons {r = r} a x e g) = (from-mono 0 hi zero-le r a, run-inner g)
-
-    run-extras : {k k′ : Stack} {w : List Record} → Run n k w k′ → Extras w
-    run-extras nil = tt
-    run-extras (cons a x e g) = (x, run-extras g)
-
-    pub record Fits (lo : ℕ) (κ : Stack) (w : List Record) : Type 0 where
-      pub top : Stack
-      pub checks : checkedAll n κ w ≡ some top
-      pub whole : complete top ≡ true
-      pub headed : Headed lo w
-      pub inner : Inner hi w
-      pub extras : Extras w
-
-    pub data Listed (lo : ℕ) (κ : Stack) : Answer State (Unit {0}) → Type 0 where
-      listed : {w : List Record} {u : State} → Fits lo κ w → Listed lo κ (done w tt u)
-      unlisted : {r : Refusal} → Listed lo κ (refused r)
-
-    none-more : (lo : ℕ) (κ : Stack) → Ready lo κ → Fits lo κ []
-    unfolding checkedAll
-    none-more lo κ y = record { top = κ; checks = refl; whole = y .done′; headed = tt; inner = tt; extras = tt }
-
-    first-fits : (lo q lo′ : ℕ) (κ κ₁ κ′ : Stack) (v w : List Record) → lo ≤ q → q < hi → checked n κ (ST q) ≡ some κ₁ → Run n κ₁ v κ′ → Fits lo′ κ′ w → Fits lo κ (ST q ∷ (v ++ w))
-    unfolding checkedAll statementFrom
-    first-fits lo q lo′ κ κ₁ κ′ v w i j e r f = record { top = f .top; checks = rw e (run-checked w r ∙ f .checks); whole = f .whole; headed = le-leb lo q i;
-      inner = (lt-leb hi q j, inner-append hi v w (run-inner r) (f .inner)); extras = (tt, extras-append v w (run-extras r) (f .extras)) }
-
-    with-first : (lo q lo′ : ℕ) (κ κ₁ κ′ : Stack) (v : List Record) → lo ≤ q → q < hi → checked n κ (ST q) ≡ some κ₁ → Run n κ₁ v κ′ → {p : Answer State (Unit {0})} → Listed lo′ κ′ p → Listed lo κ (after (ST q ∷ v) p)
-    unfolding after
-    with-first lo q lo′ κ κ₁ κ′ v i j e r (listed {w} f) = listed (first-fits lo q lo′ κ κ₁ κ′ v w i j e r f)
-    with-first lo q lo′ κ κ₁ κ′ v i j e r unlisted = unlisted
-
-    stop-listed : (lo : ℕ) (κ : Stack) {w : List Record} {t : State} → Ready lo κ → Stated n hi lo κ (done w false t) → Listed lo κ (done w tt t)
-    stop-listed lo κ y ended = listed (none-more lo κ y)
-
-    go-listed : (lo : ℕ) (κ : Stack) {w : List Record} {t : State} {p : Answer State (Unit {0})} → ((lo′ : ℕ) (κ′ : Stack) → Ready lo′ κ′ → OnS n hi 0 lo′ 0 κ′ κ′ t → Listed lo′ κ′ p)
-        → Stated n hi lo κ (done w true t) → Listed lo κ (after w p)
-    go-listed lo κ again (began {q} {lo′} {v} {κ₁ = κ₁} {κ′} i j l e r y o) = with-first lo q lo′ κ κ₁ κ′ v i j e r (again lo′ κ′ y o)
-
-    pub reads-listed : {s : State} {p : Answer State (Unit {0})} → Reads table s p → (lo : ℕ) (κ : Stack) → Ready lo κ → OnS n hi 0 lo 0 κ κ s → Listed lo κ p
-    reads-listed (Reads.stop {s} z) lo κ y o = stop-listed lo κ y (rw z at (statement-stated n hi table proper lo κ s y o))
+    pub reads-listed : {s : State} {p : Answer State (Unit {0})} → Reads table s p → (lo : ℕ) (κ : Stack) → Ready lo κ → OnS n hi 0 lo 0 κ κ s → Listed n hi lo κ p
+    reads-listed (Reads.stop {s} z) lo κ y o = stop-listed n hi lo κ y (rw z at (statement-stated n hi table proper lo κ s y o))
     reads-listed (Reads.fail z) lo κ y o = unlisted
-    reads-listed (Reads.go {s} z r) lo κ y o = go-listed lo κ (λ lo′ κ′ y′ o′. reads-listed r lo′ κ′ y′ o′) (rw z at (statement-stated n hi table proper lo κ s y o))
+    reads-listed (Reads.go {s} z r) lo κ y o = go-listed n hi lo κ (λ lo′ κ′ y′ o′. reads-listed r lo′ κ′ y′ o′) (rw z at (statement-stated n hi table proper lo κ s y o))
 
-    enter-on : (lo : ℕ) (κ : Stack) (r : Row) (rs : List Row) → Chain n hi lo (flat (r ∷ rs)) → OnS n hi 0 lo 0 κ κ (enter r rs)
-    unfolding enter firstOf
-    enter-on lo κ r rs c = record { same = refl; low = c .0; gap = le-refl (r .first .from); soon = zero-le; chain = chain-low n hi lo 0 (flat (r ∷ rs)) zero-le c }
-
-    pub begins-listed : (l : List Row) {p : Answer State (Unit {0})} → Begins table l p → (lo : ℕ) (κ : Stack) → Ready lo κ → Chain n hi lo (flat l) → Listed lo κ p
-    begins-listed l (fine {r} {rs} f g) lo κ y c = reads-listed g lo κ y (enter-on lo κ r rs c)
+    pub begins-listed : (l : List Row) {p : Answer State (Unit {0})} → Begins table l p → (lo : ℕ) (κ : Stack) → Ready lo κ → Chain n hi lo (flat l) → Listed n hi lo κ p
+    begins-listed l (fine {r} {rs} f g) lo κ y c = reads-listed g lo κ y (enter-on n hi lo κ r rs c)
     begins-listed l (broken f) lo κ y c = unlisted
 
-    fits : (lo : ℕ) (κ : Stack) {w : List Record} {u : State} → Listed lo κ (done w tt u) → Fits lo κ w
-    fits lo κ (listed f) = f
-
   pub gives-fits : (p : ℕ) (s : List ℕ) (w : List Record) (u : State) → Small s → Gives table p s (done w tt u) → Fits (p + length s) (p + length s) p fresh w
-  gives-fits p s w u m g = fits (p + length s) (p + length s) p fresh (begins-listed (p + length s) (p + length s) (rowsFrom p s) g p fresh (fresh-ready p) (chain-same _ _ p (sym (flat-from p s)) (chain-plain p s m)))
+  gives-fits p s w u m g = fits (p + length s) (p + length s) p fresh (begins-listed (p + length s) (p + length s) (rowsFrom p s) g p fresh (fresh-ready p) (chain-rows _ _ p p s refl (chain-plain p s m)))
 
   pub gives-feed : (p : ℕ) (s : List ℕ) (w : List Record) (u : State) → Small s → Gives table p (s ++ lineFeed) (done w tt u) → Fits (p + length (s ++ lineFeed)) (p + length s) p fresh w
   unfolding lineFeed
   gives-feed p s w u m g = fits (p + length (s ++ (10 ∷ []))) (p + length s) p fresh
-      (begins-listed (p + length (s ++ (10 ∷ []))) (p + length s) (rowsFrom p (s ++ (10 ∷ []))) g p fresh (fresh-ready p) (chain-same _ _ p (sym (flat-from p (s ++ (10 ∷ [])))) (chain-feed p s m)))
+      (begins-listed (p + length (s ++ (10 ∷ []))) (p + length s) (rowsFrom p (s ++ (10 ∷ []))) g p fresh (fresh-ready p) (chain-rows _ _ p p (s ++ (10 ∷ [])) refl (chain-feed p s m)))
 
   pub listing-formed : (s : List ℕ) (w : List Record) → Small s → fullRead table s ≡ accepted w → wellFormed (length s) w ≡ true
   unfolding fullRead wellFormed

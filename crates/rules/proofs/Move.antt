@@ -115,7 +115,8 @@ module _ {S : Type 0} {σ : S → S} {ρ : Record → Record} {κ : Refusal → 
   unfolding _>>=_
   bind {g = g} {h} {m} {m′} {k} k′ p e = record {
     law = λ s. ap (λ (q : Answer S _). thence q k′) (p .law s) ∙ thence-carry σ ρ κ P M g h k k′ e (m s);
-    keeps = λ s h. thence-stays P M k (λ a t i. e a .keeps t i) (m s) (p .keeps s h) }
+    keeps = λ s h. thence-stays P M k (λ a t i. e a .keeps t i) (m s) (p .keeps s h);
+  }
 
   pub andThen : {A B : Type 0} {g : A → A} {h : B → B} {m m′ : Reader S A} {k k′ : Reader S B}
       → Moves σ ρ κ P M g m m′ → Moves σ ρ κ P M h k k′ → Moves σ ρ κ P M h (m >> k) (m′ >> k′)
@@ -244,8 +245,8 @@ module _ (f : ℕ → ℕ) (P : Line → Type 0) (closed : (s : Line) → P s �
     primary-shifts : Shifts f P same (primary inner) (primary inner)
     unfolding primary moveToken moveRecord moveRefusal
     primary-shifts = bind _ ahead-shifts λ x.
-      whether (isMark "(" (x .kind)) (andThen (andThen next-shifts (each 0)) (expect-shifts ")" 14 refl))
-      (perhaps (operatorOf (x .kind)) atom-shifts λ op. andThen next-shifts (andThen
+        whether (isMark "(" (x .kind)) (andThen (andThen next-shifts (each 0)) (expect-shifts ")" 14 refl))
+        (perhaps (operatorOf (x .kind)) atom-shifts λ op. andThen next-shifts (andThen
         (whether (ltb op 2) (each prefixLevel) (refuses same _ tt))
         (bind _ passed-shifts λ t. writes _)))
 
@@ -253,7 +254,7 @@ module _ (f : ℕ → ℕ) (P : Line → Type 0) (closed : (s : Line) → P s �
     unfolding infixes moveRecord
     infixes-shifts zero level p = returns same tt
     infixes-shifts (suc n) level p = bind _ kind-shifts λ k. perhaps (operatorOf k) (returns same tt) λ op.
-      whether (ltb (leftLevel op) level) (returns same tt) (andThen next-shifts (andThen (each (rightLevel op))
+        whether (ltb (leftLevel op) level) (returns same tt) (andThen next-shifts (andThen (each (rightLevel op))
         (bind _ passed-shifts λ t. andThen (writes _) (infixes-shifts n level p))))
 
   expr-shifts : (d level : ℕ) → Shifts f P same (expr d level) (expr d level)
@@ -277,8 +278,8 @@ module _ (f : ℕ → ℕ) (P : Line → Type 0) (closed : (s : Line) → P s �
   unfolding plusIndex moveToken moveRefusal
   plusIndex-shifts p r = andThen next-shifts (bind _ ahead-shifts λ x. perhaps (nameIn registers (x .kind)) (returns (Option-map same) none) λ q.
       whether (isIndex q)
-        (andThen next-shifts (bind _ passed-shifts λ t. whether (isIndex r) (refuses (Option-map same) _ refl) (returns (Option-map same) (some (paired r q)))))
-        (refuses (Option-map same) _ tt))
+      (andThen next-shifts (bind _ passed-shifts λ t. whether (isIndex r) (refuses (Option-map same) _ refl) (returns (Option-map same) (some (paired r q)))))
+      (refuses (Option-map same) _ tt))
 
   second-shifts : (p r : ℕ) → Shifts f P same (second p r) (second (f p) r)
   unfolding second
@@ -288,7 +289,7 @@ module _ (f : ℕ → ℕ) (P : Line → Type 0) (closed : (s : Line) → P s �
   unfolding registersAhead moveToken moveRefusal
   registersAhead-shifts = bind _ ahead-shifts λ x. bind _ passed-shifts λ t. perhaps (nameIn registers (x .kind)) (returns same none) λ r.
       whether (isBase r || isIndex r) (andThen next-shifts (bind _ (second-shifts (x .from) r) λ e. returns same (some e)))
-        (refuses same _ tt)
+      (refuses same _ tt)
 
   displacement-shifts : Shifts f P same displacement displacement
   unfolding displacement
@@ -315,9 +316,9 @@ module _ (f : ℕ → ℕ) (P : Line → Type 0) (closed : (s : Line) → P s �
   operandSized-shifts zero size = immediateOrFar-shifts
   operandSized-shifts (suc n) size = bind _ ahead-shifts λ x. whether (isMark "[" (x .kind)) (memory-shifts size)
       (perhaps (nameIn registers (x .kind)) (perhaps (nameIn segments (x .kind)) (perhaps (nameIn sizes (x .kind)) immediateOrFar-shifts
-        (λ z. andThen next-shifts (operandSized-shifts n (suc z))))
-        (λ s. andThen next-shifts (writes _)))
-        (λ r. andThen next-shifts (writes _)))
+      (λ z. andThen next-shifts (operandSized-shifts n (suc z))))
+      (λ s. andThen next-shifts (writes _)))
+      (λ r. andThen next-shifts (writes _)))
 
   operand-shifts : Shifts f P same operand operand
   unfolding operand
@@ -327,10 +328,10 @@ module _ (f : ℕ → ℕ) (P : Line → Type 0) (closed : (s : Line) → P s �
   unfolding operands moveToken moveOperands
   operands-shifts = bind _ ahead-shifts λ x. bind _ passed-shifts λ l. whether (isLineEnd (x .kind)) (returns (moveOperands f) (record { count = 0; from = l; to = l }))
       (andThen operand-shifts (bind _ kind-shifts λ k. whether (isLineEnd k)
-        (bind _ passed-shifts λ t. returns (moveOperands f) (record { count = 1; from = x .from; to = t }))
-        (whether (isMark "," k)
-          (andThen next-shifts (andThen operand-shifts (bind _ passed-shifts λ t. returns (moveOperands f) (record { count = 2; from = x .from; to = t }))))
-          (here-shifts (moveOperands f) 11 refl))))
+      (bind _ passed-shifts λ t. returns (moveOperands f) (record { count = 1; from = x .from; to = t }))
+      (whether (isMark "," k)
+      (andThen next-shifts (andThen operand-shifts (bind _ passed-shifts λ t. returns (moveOperands f) (record { count = 2; from = x .from; to = t }))))
+      (here-shifts (moveOperands f) 11 refl))))
 
 -- No 34 within a line.
 pub record Gentle {A : Type 0} (m : Reader Line A) : Type 0 where

@@ -46,8 +46,6 @@ module _ (f : ℕ → ℕ) where
   skip-shifts l [] = refl
   skip-shifts l (r ∷ rs) = if-carry same (isLineEnd (l .here .kind)) _ _ _ _ (arrive-moves f moveState same (r .first) _ _ (skip-shifts _ rs)) refl
 
-
-
 pub unit-state : (l : Line) (rs : List Row) → Unit {0} → Stays (λ _. Unit {0}) Mild (next l)
 unit-state l rs h = next-mild .law l
 
@@ -77,7 +75,6 @@ module _ (f : ℕ → ℕ) (P : Line → Type 0) (closed : (s : Line) → P s �
   literals-shifts zero width = returns same []
   literals-shifts (suc n) width = bind _ (kind-shifts f P closed) λ k. literalOf-shifts k width (literals-shifts n width)
 
-
 module _ (f : ℕ → ℕ) (P : State → Type 0) where
   abbrev pub ShiftsState : {A : Type 0} → (A → A) → Reader State A → Reader State A → Type 0
   ShiftsState g m m′ = Moves (moveState f) (moveRecord f) (moveRefusal f) P Any g m m′
@@ -103,6 +100,7 @@ module _ (f : ℕ → ℕ) (P : State → Type 0)
     where
       t : Line
       t = firstOf r
+
       go : (c : Bool) → Stays P Any (skip t rs) → Stays P Any (if_then_else_ {A = Answer State (Unit {0})} c (arrive (r .first) (skip t rs)) (done [] tt (record { line = l; below = r ∷ rs })))
       go true i = arrive-stays P Any (r .first) (skip t rs) (λ n e. tt) i
       go false i = h
@@ -111,7 +109,8 @@ module _ (f : ℕ → ℕ) (P : State → Type 0)
   unfolding inLine moveState
   inLines {g = g} {m} p = record {
     law = λ s. ap (over (map (moveRow f) (s .below))) (p (λ _. Unit {0}) (λ l h. next-mild .law l) .law (s .line)) ∙ over-carry f g (s .below) (m (s .line));
-    keeps = λ s h. over-stays (s .below) (m (s .line)) (p (λ t. P (record { line = t; below = s .below })) (λ l i. closed l (s .below) i) .keeps (s .line) h) }
+    keeps = λ s h. over-stays (s .below) (m (s .line)) (p (λ t. P (record { line = t; below = s .below })) (λ l i. closed l (s .below) i) .keeps (s .line) h);
+  }
 
   nextRow-shifts : ShiftsState f P same nextRow nextRow
   unfolding nextRow moveState

@@ -73,8 +73,8 @@ next-falls (suc n) l x (y ∷ ys) rs h i = arrived (refusedAs (y .kind))
   where
     arrived : (o : Option ℕ) → Stays (Below n) Any (over {A = Unit {0}} rs (maybe o (done [] tt (record { last = x .to; here = y; more = ys })) (λ k. refused (at k (y .from) (y .to)))))
     arrived none =
-      let k : suc (length ys) + total rs ≤ suc n = h .few in
-      record { few = omega arith; ended = h .ended; others = h .others }
+        let k : suc (length ys) + total rs ≤ suc n = h .few in
+        record { few = omega arith; ended = h .ended; others = h .others }
     arrived (some k) = tt
 
 passing-falls : (n : ℕ) (s : State) → Below n s → isLineEnd (s .line .here .kind) ≡ false → (m : Reader State (Unit {0})) → ((k : ℕ) (t : State) → Below k t → Stays (Below k) Any (m t))
@@ -133,7 +133,7 @@ module _ (table : List ℕ) where
   times-falls zero n s h i = tt
   times-falls (suc k) n s h i = after-stays (Lower n) Any [] _ (passing-falls n s h i _ (λ q t j.
       andThen (inLines same (Below q) (closed q) (closed-row q) (expression-shifts same)) (andThen (skipLines-shifts same (Below q) (closed q) (closed-row q))
-        (content-shifts same (Below q) (closed q) (closed-row q) table (s .line .here) (times-shifts same (Below q) (closed q) (closed-row q) table k))) .keeps t j))
+      (content-shifts same (Below q) (closed q) (closed-row q) table (s .line .here) (times-shifts same (Below q) (closed q) (closed-row q) table k))) .keeps t j))
 
   module _ (k n : ℕ) (s : State) (h : Below n s) where
     x : Lexeme
@@ -146,14 +146,17 @@ module _ (table : List ℕ) where
         by-word : (b : Bool) → isWord (here′ s) ≡ b → Stays (Lower n) Any (if_then_else_ {A = Reader State (Unit {0})} b (passing (inLine (label (s .line .here)))) (inLine (refuseHere 20)) s)
         by-word true e = passing-falls n s h (word-inside (here′ s) e) _ (λ q t j. inLines same (Below q) (closed q) (closed-row q) (λ Q c. label-shifts same Q c (s .line .here)) .keeps t j)
         by-word false e = tt
+
         by-number : isLineEnd (here′ s) ≡ false → (d : ℕ) (b b′ : Bool) → Stays (Lower n) Any (if_then_else_ {A = Reader State (Unit {0})} b (passing (constant (s .line .here))) (if b′ then (passing (dataOf (s .line .here) d)) else (times table k)) s)
         by-number i d true b′ = passing-falls n s h i _ (λ q t j. constant-shifts same (Below q) (closed q) (closed-row q) (s .line .here) .keeps t j)
         by-number i d false true = passing-falls n s h i _ (λ q t j. dataOf-shifts same (Below q) (closed q) (closed-row q) (s .line .here) d .keeps t j)
         by-number i d false false = times-falls k n s h i
+
         by-directive : (o : Option ℕ) → nameIn directives (here′ s) ≡ o → Stays (Lower n) Any (maybe {B = Reader State (Unit {0})} o (if isWord (here′ s) then (passing (inLine (label (s .line .here)))) else (inLine (refuseHere 20)))
             (λ d. if eqb d 0 then (passing (constant (s .line .here))) else if ltb d 3 then (passing (dataOf (s .line .here) d)) else (times table k)) s)
         by-directive none e = by-word (isWord (here′ s)) refl
         by-directive (some d) e = by-number (name-inside directives (here′ s) d e) d (eqb d 0) (ltb d 3)
+
         by-operation : (o : Option ℕ) → operationIn table (here′ s) ≡ o → Stays (Lower n) Any (maybe {B = Reader State (Unit {0})} o (maybe (nameIn directives (here′ s)) (if isWord (here′ s) then (passing (inLine (label (s .line .here)))) else (inLine (refuseHere 20)))
             (λ d. if eqb d 0 then (passing (constant (s .line .here))) else if ltb d 3 then (passing (dataOf (s .line .here) d)) else (times table k))) (λ op. passing (instruction (s .line .here) op)) s)
         by-operation none e = by-directive (nameIn directives (here′ s)) refl

@@ -1,7 +1,7 @@
 -- The fields of a listing that the check lets pass, of a source that is not too long, fit their four bytes: places are at most the source's
 -- length, and the others are bounded each by its own test. VC's value and LD's count, which the check leaves free, are given.
 use mathlib.Core.Path.{_≡_, refl}
-use mathlib.Core.Bool.{Bool, true, false, _&&_}
+use mathlib.Core.Bool.{Bool, true, false, _&&_, true≢false}
 use mathlib.Core.List.{List, [], _∷_}
 use mathlib.Core.Option.{Option, none, some}
 use Prim.Native.Nat.{ℕ, _≤_}
@@ -23,12 +23,12 @@ Extras (r ∷ rs) = Extra r × Extras rs
 given-true : (b : Bool) (o : Option Stack) {k : Stack} → given b o ≡ some k → b ≡ true
 unfolding given
 given-true true o h = refl
-given-true false o h = let z : _≡_ {A = ℕ} 0 1 = cc in absurd (omega arith)
+given-true false o h = absurd (true≢false cc)
 
 allow-true : (b : Bool) (x : Stack) {k : Stack} → allow b x ≡ some k → b ≡ true
 unfolding allow
 allow-true true o h = refl
-allow-true false o h = let z : _≡_ {A = ℕ} 0 1 = cc in absurd (omega arith)
+allow-true false o h = absurd (true≢false cc)
 
 module _ (n : ℕ) (short : n ≤ 65536) where
   spans-low : (k : Stack) (f t : ℕ) → spans n k f t ≡ true → Low f × Low t
@@ -95,5 +95,5 @@ module _ (n : ℕ) (short : n ≤ 65536) where
   all-ranged k (r ∷ rs) {top} h x = go (checked n k r) refl h (λ k′ e. all-ranged k′ rs e (x .1))
     where
       go : (o : Option Stack) → checked n k r ≡ o → maybe o none (λ k′. checkedAll n k′ rs) ≡ some top → ((k′ : Stack) → checkedAll n k′ rs ≡ some top → AllRanged rs) → Ranged r × AllRanged rs
-      go none e i again = let z : _≡_ {A = ℕ} 0 1 = cc in absurd (omega arith)
+      go none e i again = absurd (true≢false cc)
       go (some k′) e i again = (ranged k k′ r e (x .0), again k′ i)

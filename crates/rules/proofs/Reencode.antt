@@ -1,7 +1,7 @@
 -- The records that bytes are decoded to have those bytes: a field's bytes come back from its value, and each record is decoded only from
 -- its own mark and its whole length. It is what lets the patch copy bytes.
 use mathlib.Core.Path.{_≡_, refl, sym, ap, ap₂, _∙_}
-use mathlib.Core.Bool.{Bool, true, false, _&&_, false≢true}
+use mathlib.Core.Bool.{Bool, true, false, _&&_, false≢true, true≢false}
 use mathlib.Core.List.{List, [], _∷_, _++_, append-assoc}
 use mathlib.Core.Option.{Option, none, some}
 use Prim.Native.Nat.{ℕ, zero, suc, pred, _+_, _*_, _/_, _%_, _≤_, _<_}
@@ -87,7 +87,7 @@ having-encodes n m s r z o h e = go (leb (4 * n) (length s)) refl h
         let k : record { what = r; size = 2 + 4 * n } ≡ z = cc in
         let l : 4 * n ≤ length s = leb-true (4 * n) (length s) i in
         record { size = 4 * n; sized = sym (ap (λ (q : Sized). q .size) k); fits = l; bytes′ = ap (λ (q : List ℕ). m ++ q) (take-fields 0 n s (omega arith) o) ∙ sym e ∙ ap (λ (q : Sized). encode (q .what)) k }
-    go false i j = let y : _≡_ {A = ℕ} 0 1 = cc in absurd (omega arith)
+    go false i j = absurd (true≢false cc)
 
 same-true : (a b : List ℕ) → same a b ≡ true → a ≡ b
 unfolding same
@@ -123,7 +123,7 @@ data-encodes m s z o h e = go (leb (12 + nth 2 s) (length s)) refl h
           fits = l;
           bytes′ = ap₂ _++_ e (take-add 12 n s ∙ ap (λ (q : List ℕ). q ++ take n (drop 12 s)) (take-fields 0 3 s (omega arith) o)) ∙ data-bytes (nth 0 s) (nth 1 s) n (take n (drop 12 s)) (length-take-le n (drop 12 s) (omega (arith, length-drop 12 s))) ∙ ap (λ (q : Sized). encode (q .what)) k;
         }
-    go false i j = let y : _≡_ {A = ℕ} 0 1 = cc in absurd (omega arith)
+    go false i j = absurd (true≢false cc)
 
 pick : {P : Type 0} (b : Bool) (x y : Option Sized) (z : Sized) → (b ≡ true → x ≡ some z → P) → (b ≡ false → y ≡ some z → P) → (if b then x else y) ≡ some z → P
 pick true x y z p q h = p refl h
@@ -162,11 +162,11 @@ module _ (m s : List ℕ) (z : Sized) (o : Octets s) where
       pick (same m (bytes "LI")) _ _ z (fielded "LI" 6 (LI (nth 0 s) (nth 1 s) (nth 2 s) (nth 3 s) (nth 4 s) (nth 5 s)) refl) λ _.
       pick (same m (bytes "LD")) _ _ z (λ e h. data-encodes m s z o h (same-true m (bytes "LD") e)) λ _.
       pick (same m (bytes "LC")) _ _ z (fielded "LC" 2 (LC (nth 0 s) (nth 1 s)) refl) λ _.
-      pick (same m (bytes "LT") && eqb (nth 0 s) 0 && eqb (nth 1 s) 0) _ _ z times-encodes λ _ h. let y : _≡_ {A = ℕ} 0 1 = cc in absurd (omega arith)
+      pick (same m (bytes "LT") && eqb (nth 0 s) 0 && eqb (nth 1 s) 0) _ _ z times-encodes λ _ h. absurd (true≢false cc)
 
 also-some : (r : Record) (o : Option (List Record)) {rs : List Record} → also r o ≡ some rs → (q : List Record) × (o ≡ some q) × (rs ≡ r ∷ q)
 unfolding also
-also-some r none h = let y : _≡_ {A = ℕ} 0 1 = cc in absurd (omega arith)
+also-some r none h = absurd (true≢false cc)
 also-some r (some q) h = (q, refl, cc)
 
 -- a record's bytes, and the rest
@@ -186,13 +186,13 @@ taken-apart c cs z E =
 records-bytes : (k : ℕ) (b : List ℕ) {rs : List Record} → Octets b → recordsFrom k b ≡ some rs → drop k b ≡ listing rs
 unfolding recordsFrom listing
 records-bytes zero [] {rs} o h = let y : rs ≡ [] = cc in rw y
-records-bytes (suc k) [] o h = let y : _≡_ {A = ℕ} 0 1 = cc in absurd (omega arith)
+records-bytes (suc k) [] o h = absurd (true≢false cc)
 records-bytes (suc k) (c ∷ cs) o h = records-bytes k cs (o .1) h
 records-bytes zero (c ∷ cs) {rs} o h = go (recordOf (take 2 (c ∷ cs)) (drop 2 (c ∷ cs))) refl h (λ k q e. records-bytes k cs {rs = q} (o .1) e)
   where
     go : (x : Option Sized) → recordOf (take 2 (c ∷ cs)) (drop 2 (c ∷ cs)) ≡ x → maybe x none (λ r. also (r .what) (recordsFrom (pred (r .size)) cs)) ≡ some rs
         → ((k : ℕ) (q : List Record) → recordsFrom k cs ≡ some q → drop k cs ≡ listing q) → c ∷ cs ≡ listing rs
-    go none e i again = let y : _≡_ {A = ℕ} 0 1 = cc in absurd (omega arith)
+    go none e i again = absurd (true≢false cc)
     go (some z) e i again =
         let (q, j, f) = also-some (z .what) (recordsFrom (pred (z .size)) cs) i in
         rw f (taken-apart c cs z (record-encodes (take 2 (c ∷ cs)) (drop 2 (c ∷ cs)) z (octets-drop 2 (c ∷ cs) o) e) ∙ ap (λ (l : List ℕ). encode (z .what) ++ l) (again (pred (z .size)) q j))

@@ -1,4 +1,5 @@
--- The listing that is read is well-formed: a Hoare logic of readers over the stack that the listing's check keeps. `Triple P m Q`: from P, m's records are checked, and lead to Q.
+-- The listing that is read is well-formed: its records, one by one, take the stack of the listing's check on, and the tokens' places rise, so
+-- that every span is in range.
 use mathlib.Core.Path.{_≡_, refl, sym, ap, ap₂, _∙_}
 use mathlib.Core.Bool.{Bool, true, false, not, _&&_, _||_, true≢false, false≢true}
 use mathlib.Core.List.{List, [], _∷_, _++_, map, append-assoc, append-nil}
@@ -9,7 +10,7 @@ use Prim.Native.String.{String}
 use native.Mathlib.Omega.{arith}
 use native.Mathlib.Nat.{le-refl, le-trans}
 use lib.Dec.{eqb, leb, ltb}
-use lib.ListN.{length, take, length-append, length-take}
+use lib.ListN.{length, take, drop, length-append, length-take, take-append-drop}
 use borrow.Author.Tests.{le-leb, lt-ltb, le-ltb, ne-eqb, eq-eqb, ltb-true}
 use Rattle.lexer.specs.Text.{if_then_else_, maybe, is, bytes, same}
 use Rattle.rules.specs.Lexemes.{Kind, word, number, quoted, mark, newline, blank, comment, invalid, end, bad, Lexeme, textOf, nameIn, operationIn}
@@ -22,6 +23,7 @@ use Rattle.rules.specs.Statements.{label, literalOf, literals}
 use Rattle.rules.specs.WellFormed.{Stack, stack, allow, toExpression, toOperand, toLine, complete, spans, given, checked, checkedAll}
 use Rattle.rules.specs.Patch.{statementFrom}
 use Rattle.rules.proofs.Table.{Proper}
+use Rattle.rules.proofs.Hoare.{Run, nil, cons, Post, holds, fails, Triple, bind, andThen, whether, perhaps, returns, refuses, writes, before, behind, known, derive, arrive-post, attempts, askAhead, askKind, askPassed, askLeft, here-fails}
 
 -- What a record holds besides what the check tests.
 abbrev pub Extra : Record → Type 0
@@ -48,6 +50,17 @@ Extra LT = Unit {0}
 abbrev pub Small : List ℕ → Type 0
 Small [] = Unit {0}
 Small (c ∷ cs) = (c ≤ 2147483647) × Small cs
+
+pub small-split : (a b : List ℕ) → Small (a ++ b) → Small a × Small b
+small-split [] b h = (tt, h)
+small-split (c ∷ a) b h = let (i, j) = small-split a b (h .1) in ((h .0, i), j)
+
+pub small-append : (a b : List ℕ) → Small a → Small b → Small (a ++ b)
+small-append [] b h i = i
+small-append (c ∷ a) b h i = (h .0, small-append a b (h .1) i)
+
+pub small-parts : (n : ℕ) (s : List ℕ) → Small s → Small (take n s) × Small (drop n s)
+small-parts n s h = small-split (take n s) (drop n s) (rw (take-append-drop n s) h)
 
 abbrev pub Holds : Kind → ℕ → ℕ → Type 0
 Holds (number v) f t = v ≤ 2147483647
@@ -82,85 +95,11 @@ pub chain-low : (n hi lo lo′ : ℕ) (xs : List Lexeme) → lo′ ≤ lo → Ch
 chain-low n hi lo lo′ [] i h = le-trans i h
 chain-low n hi lo lo′ (x ∷ xs) i h = (le-trans i (h .0), h .1, h .2)
 
--- Records of one statement: none begins another.
-pub data Run (n : ℕ) : Stack → List Record → Stack → Type 0 where
-  nil : {k : Stack} → Run n k [] k
-  cons : {k k′ k″ : Stack} {r : Record} {w : List Record} → statementFrom 0 r ≡ false → Extra r → checked n k r ≡ some k′ → Run n k′ w k″ → Run n k (r ∷ w) k″
-
-pub run-append : {n : ℕ} {k k′ k″ : Stack} {w v : List Record} → Run n k w k′ → Run n k′ v k″ → Run n k (w ++ v) k″
-run-append nil r = r
-run-append (cons a b c g) r = cons a b c (run-append g r)
-
-pub data Post (n : ℕ) {S A : Type 0} (Q : A → Stack → S → Type 0) (k : Stack) : Answer S A → Type 0 where
-  holds : {w : List Record} {a : A} {s : S} {k′ : Stack} → Run n k w k′ → Q a k′ s → Post n Q k (done w a s)
-  fails : {r : Refusal} → Post n Q k (refused r)
-
-pub record Triple (n : ℕ) {S A : Type 0} (P : Stack → S → Type 0) (m : Reader S A) (Q : A → Stack → S → Type 0) : Type 0 where
-  pub law : (k : Stack) (s : S) → P k s → Post n Q k (m s)
-
-module _ {n : ℕ} {S : Type 0} where
-  pub after-post : {A : Type 0} {Q : A → Stack → S → Type 0} {k k′ : Stack} {w : List Record} {p : Answer S A} → Run n k w k′ → Post n Q k′ p → Post n Q k (after w p)
-  unfolding after
-  after-post r (holds r′ q) = holds (run-append r r′) q
-  after-post r fails = fails
-
-  pub thence-post : {A B : Type 0} {Q : A → Stack → S → Type 0} {R : B → Stack → S → Type 0} {k : Stack} (f : A → Reader S B) → ((a : A) (k : Stack) (s : S) → Q a k s → Post n R k (f a s))
-      → {p : Answer S A} → Post n Q k p → Post n R k (thence p f)
-  unfolding thence
-  thence-post f e (holds {a = a} {s} {k′} r q) = after-post r (e a k′ s q)
-  thence-post f e fails = fails
-
-  pub bind : {A B : Type 0} {P : Stack → S → Type 0} {Q : A → Stack → S → Type 0} {R : B → Stack → S → Type 0} {m : Reader S A} {f : A → Reader S B}
-      → Triple n P m Q → ((a : A) → Triple n (Q a) (f a) R) → Triple n P (m >>= f) R
-  unfolding _>>=_
-  bind {m = m} {f} p e = record { law = λ k s h. thence-post f (λ a k′ s′ q. e a .law k′ s′ q) (p .law k s h) }
-
-  pub andThen : {A B : Type 0} {P : Stack → S → Type 0} {Q : A → Stack → S → Type 0} {R : B → Stack → S → Type 0} {m : Reader S A} {f : Reader S B}
-      → Triple n P m Q → ((a : A) → Triple n (Q a) f R) → Triple n P (m >> f) R
-  unfolding _>>_ _>>=_
-  andThen {m = m} {f} p e = record { law = λ k s h. thence-post (λ _. f) (λ a k′ s′ q. e a .law k′ s′ q) (p .law k s h) }
-
-  pub whether : {A : Type 0} {P : Stack → S → Type 0} {Q : A → Stack → S → Type 0} {m m′ : Reader S A} (c : Bool) → (c ≡ true → Triple n P m Q) → (c ≡ false → Triple n P m′ Q) → Triple n P (if c then m else m′) Q
-  whether true p q = p refl
-  whether false p q = q refl
-
-  pub perhaps : {A B : Type 0} {P : Stack → S → Type 0} {Q : A → Stack → S → Type 0} {m : Reader S A} {f : B → Reader S A} (o : Option B) → Triple n P m Q → ((b : B) → o ≡ some b → Triple n P (f b) Q)
-      → Triple n P (maybe o m f) Q
-  perhaps none p q = p
-  perhaps (some b) p q = q b refl
-
-  pub returns : {A : Type 0} {P : Stack → S → Type 0} {Q : A → Stack → S → Type 0} (a : A) → ((k : Stack) (s : S) → P k s → Q a k s) → Triple n P (return a) Q
-  unfolding return
-  returns a h = record { law = λ k s p. holds nil (h k s p) }
-
-  pub refuses : {A : Type 0} {P : Stack → S → Type 0} {Q : A → Stack → S → Type 0} (r : Refusal) → Triple n P (refuse r) Q
-  unfolding refuse
-  refuses r = record { law = λ k s p. fails }
-
-  pub before : {A : Type 0} {P P′ : Stack → S → Type 0} {Q : A → Stack → S → Type 0} {m : Reader S A} → ((k : Stack) (s : S) → P′ k s → P k s) → Triple n P m Q → Triple n P′ m Q
-  before h p = record { law = λ k s q. p .law k s (h k s q) }
-
-  post-map : {A : Type 0} {Q R : A → Stack → S → Type 0} → ((a : A) (k : Stack) (s : S) → Q a k s → R a k s) → {k : Stack} {p : Answer S A} → Post n Q k p → Post n R k p
-  post-map h (holds {a = a} {s} {k′} r q) = holds r (h a k′ s q)
-  post-map h fails = fails
-
-  pub behind : {A : Type 0} {P : Stack → S → Type 0} {Q R : A → Stack → S → Type 0} {m : Reader S A} → ((a : A) (k : Stack) (s : S) → Q a k s → R a k s) → Triple n P m Q → Triple n P m R
-  behind {m = m} h p = record { law = λ k s q. post-map h (p .law k s q) }
-
--- with what P says
-pub known : {n : ℕ} {S A F : Type 0} {P : Stack → S → Type 0} {m : Reader S A} {Q : A → Stack → S → Type 0} → (F → Triple n P m Q) → Triple n (λ k s. F × P k s) m Q
-known g = record { law = λ k s h. g (h .0) .law k s (h .1) }
-
-pub derive : {n : ℕ} {S A F : Type 0} {P : Stack → S → Type 0} {m : Reader S A} {Q : A → Stack → S → Type 0} → ((k : Stack) (s : S) → P k s → F) → (F → Triple n P m Q) → Triple n P m Q
-derive h g = record { law = λ k s p. g (h k s p) .law k s p }
-
-pub arrive-post : {n : ℕ} {S A : Type 0} {Q : A → Stack → S → Type 0} {k : Stack} (x : Lexeme) {p : Answer S A} → Post n Q k p → Post n Q k (arrive x p)
-unfolding arrive
-arrive-post {n} {Q = Q} {k} x {p} h = go (refusedAs (x .kind))
-  where
-    go : (o : Option ℕ) → Post n Q k (maybe o p (λ m. refused (at m (x .from) (x .to))))
-    go none = h
-    go (some m) = fails
+-- One record of a statement: it begins no other, and the check takes it.
+pub record Checks (n : ℕ) (k : Stack) (r : Record) (k′ : Stack) : Type 0 where
+  pub inner : statementFrom 0 r ≡ false
+  pub extra : Extra r
+  pub checks : checked n k r ≡ some k′
 
 pub taken : (o : Option Stack) → given true o ≡ o
 unfolding given
@@ -175,12 +114,12 @@ operator-small k op h = go (isMark "+" k) (isMark "-" k) (isMark "*" k) (isMark 
     go false true c d e = let z : 1 ≡ op = cc in omega arith
     go false false true d e = let z : 2 ≡ op = cc in omega arith
     go false false false true e = let z : 3 ≡ op = cc in omega arith
-    go false false false false e = let z : _≡_ {A = ℕ} 0 1 = cc in absurd (omega arith)
+    go false false false false e = absurd (true≢false cc)
 
 -- The numbers of names.
 place-small : (m : ℕ) (w : List ℕ) (t : List String) (r : ℕ) → placeFrom m w t ≡ some r → r < m + length t
 unfolding placeFrom
-place-small m w [] r h = let z : _≡_ {A = ℕ} 0 1 = cc in absurd (omega arith)
+place-small m w [] r h = absurd (true≢false cc)
 place-small m w (row ∷ t) r h = go (same w (bytes row)) h (λ e. place-small (suc m) w t r e)
   where
     go : (b : Bool) → _≡_ {A = Option ℕ} (if b then (some m) else (placeFrom (suc m) w t)) (some r) → (placeFrom (suc m) w t ≡ some r → r < suc m + length t) → r < m + suc (length t)
@@ -192,7 +131,7 @@ pub asked : (k : Kind) (ask : List ℕ → Option ℕ) (r : ℕ) → maybe (text
 asked k ask r = go (textOf k) refl
   where
     go : (o : Option (List ℕ)) → textOf k ≡ o → maybe o none ask ≡ some r → (w : List ℕ) × (textOf k ≡ some w) × (ask w ≡ some r)
-    go none e h = let z : _≡_ {A = ℕ} 0 1 = cc in absurd (omega arith)
+    go none e h = absurd (true≢false cc)
     go (some w) e h = (w, e, h)
 
 name-small : (t : List String) (k : Kind) (r : ℕ) → nameIn t k ≡ some r → r < length t
@@ -250,19 +189,6 @@ abbrev Coded : Option ℕ → Type 0
 Coded none = Unit {0}
 Coded (some e) = e < 8
 
--- a reading that goes back where it finds nothing
-orBack-post : {n : ℕ} {S A : Type 0} {Q : Option A → Stack → S → Type 0} {R : A → Stack → S → Type 0} {k : Stack} (a : A) (s : S) → ((b : A) (k : Stack) (t : S) → Q (some b) k t → R b k t) → R a k s
-    → {p : Answer S (Option A)} → Post n Q k p → Post n R k (orBack p a s)
-unfolding orBack
-orBack-post a s e h (holds {a = none} r q) = holds nil h
-orBack-post a s e h (holds {a = some b} {s = t} {k′} r q) = holds r (e b k′ t q)
-orBack-post a s e h fails = fails
-
-attempts : {n : ℕ} {S A : Type 0} {P : Stack → S → Type 0} {Q : Option A → Stack → S → Type 0} {R : A → Stack → S → Type 0} {m : Reader S (Option A)} (a : A)
-    → ((b : A) (k : Stack) (t : S) → Q (some b) k t → R b k t) → ((k : Stack) (s : S) → P k s → R a k s) → Triple n P m Q → Triple n P (attempt m a) R
-unfolding attempt
-attempts a e h p = record { law = λ k s q. orBack-post a s e (h k s q) (p .law k s q) }
-
 -- A token ahead, of a statement that begins at p0, where b is passed.
 pub record Facts (n hi p0 b c : ℕ) (x : Lexeme) : Type 0 where
   pub start : p0 ≤ x .from
@@ -312,13 +238,21 @@ module _ (p0 : ℕ) where
 
   pub first-context : (e : ℕ) → Context p0 (λ i. open′ p0 (up e i) 0 0)
   unfolding open′
-  first-context e = record { places = λ i. refl; push = λ i. expression-first 0 (up e i) (suc (up e i)) zero-le (omega arith);
-    turn = λ i. expression-first 1 (suc (up e i)) (suc (up e i)) (omega arith) (omega arith); join = λ i. expression-first 2 (suc (suc (up e i))) (suc (up e i)) (omega arith) (omega arith) }
+  first-context e = record {
+    places = λ i. refl;
+    push = λ i. expression-first 0 (up e i) (suc (up e i)) zero-le (omega arith);
+    turn = λ i. expression-first 1 (suc (up e i)) (suc (up e i)) (omega arith) (omega arith);
+    join = λ i. expression-first 2 (suc (suc (up e i))) (suc (up e i)) (omega arith) (omega arith);
+  }
 
   pub second-context : (e : ℕ) → Context p0 (λ i. open′ p0 e 1 i)
   unfolding open′
-  second-context e = record { places = λ i. refl; push = λ i. expression-second 0 e i (suc i) zero-le (omega arith);
-    turn = λ i. expression-second 1 e (suc i) (suc i) (omega arith) (omega arith); join = λ i. expression-second 2 e (suc (suc i)) (suc i) (omega arith) (omega arith) }
+  second-context e = record {
+    places = λ i. refl;
+    push = λ i. expression-second 0 e i (suc i) zero-le (omega arith);
+    turn = λ i. expression-second 1 e (suc i) (suc i) (omega arith) (omega arith);
+    join = λ i. expression-second 2 e (suc (suc i)) (suc i) (omega arith) (omega arith);
+  }
 
 width-four : (width v : ℕ) → length (take width (field v)) ≤ 4
 unfolding field
@@ -350,49 +284,54 @@ module _ (n hi p0 : ℕ) (rest : List Lexeme) where
   on-less i j h = record { same = h .same; low = le-trans i (h .low); gap = h .gap; soon = le-trans j (h .soon); chain = h .chain }
 
   module _ {b c : ℕ} {κ : Stack} where
-    pub aheadThen : {B : Type 0} {f : Lexeme → Reader Line B} {R : B → Stack → Line → Type 0} → ((x : Lexeme) → Facts n hi p0 b c x → Triple n (On b (x .to) κ) (f x) R) → Triple n (On b c κ) (ahead >>= f) R
-    unfolding ahead _>>=_ thence
-    aheadThen {f = f} e = record { law = λ k s h. after-post nil (e (s .here) (facts b c κ k s h) .law k s
-        (record { same = h .same; low = h .low; gap = h .gap; soon = le-refl (s .here .to); chain = h .chain })) }
+    -- at the token x
+    at-token : {A : Type 0} {m : Reader Line A} {R : A → Stack → Line → Type 0} (x : Lexeme) → (Facts n hi p0 b c x → Triple (Checks n) (On b (x .to) κ) m R)
+        → Triple (Checks n) (λ k s. (s .here ≡ x) × On b c κ k s) m R
+    at-token x e = record {
+      law = λ k s h.
+          let i : x .to ≤ s .here .to = rw (h .0) (le-refl (x .to)) in
+          e (rw (h .0) at (facts b c κ k s (h .1))) .law k s (record { same = h .1 .same; low = h .1 .low; gap = h .1 .gap; soon = i; chain = h .1 .chain });
+    }
 
-    pub kindThen : {B : Type 0} (f : Kind → Reader Line B) {R : B → Stack → Line → Type 0} → ((x : Lexeme) → Facts n hi p0 b c x → Triple n (On b (x .to) κ) (f (x .kind)) R) → Triple n (On b c κ) (kind >>= f) R
-    unfolding kind _>>=_ thence
-    kindThen f e = record { law = λ k s h. after-post nil (e (s .here) (facts b c κ k s h) .law k s
-        (record { same = h .same; low = h .low; gap = h .gap; soon = le-refl (s .here .to); chain = h .chain })) }
+    -- what is passed
+    pub between : {t : ℕ} (k : Stack) (s : Line) → (s .last ≡ t) × On b c κ k s → (b ≤ t) × (t ≤ n)
+    between {t} k s h =
+        let e : s .last ≡ t = h .0 in
+        let i : s .here .to ≤ n = chain-le n hi (s .here .to) (s .more ++ rest) (h .1 .chain .2) in
+        (omega (arith, h .1 .low), omega (arith, h .1 .gap, h .1 .chain .1 .ordered))
 
-    pub passedThen : {B : Type 0} {f : ℕ → Reader Line B} {R : B → Stack → Line → Type 0} → ((t : ℕ) → b ≤ t → t ≤ n → Triple n (On b c κ) (f t) R) → Triple n (On b c κ) (passed >>= f) R
-    unfolding passed _>>=_ thence
-    passedThen {f = f} e = record { law = λ k s h.
-        let i : s .last ≤ n = le-trans (le-trans (h .gap) (h .chain .1 .ordered)) (chain-le n hi (s .here .to) (s .more ++ rest) (h .chain .2)) in
-        after-post nil (e (s .last) (h .low) i .law k s h) }
+    pub aheadThen : {B : Type 0} {f : Lexeme → Reader Line B} {R : B → Stack → Line → Type 0} → ((x : Lexeme) → Facts n hi p0 b c x → Triple (Checks n) (On b (x .to) κ) (f x) R) → Triple (Checks n) (On b c κ) (ahead >>= f) R
+    aheadThen e = askAhead λ x. at-token x (e x)
 
-    pub leftThen : {B : Type 0} {f : ℕ → Reader Line B} {R : B → Stack → Line → Type 0} → ((m : ℕ) → Triple n (On b c κ) (f m) R) → Triple n (On b c κ) (left >>= f) R
-    unfolding left _>>=_ thence
-    leftThen {f = f} e = record { law = λ k s h. after-post nil (e (length (s .more)) .law k s h) }
+    pub kindThen : {B : Type 0} (f : Kind → Reader Line B) {R : B → Stack → Line → Type 0} → ((x : Lexeme) → Facts n hi p0 b c x → Triple (Checks n) (On b (x .to) κ) (f (x .kind)) R) → Triple (Checks n) (On b c κ) (kind >>= f) R
+    kindThen f e = askKind f λ x. at-token x (e x)
 
-    pub here-fails : {A : Type 0} {R : A → Stack → Line → Type 0} (m : ℕ) → Triple n (On b c κ) (refuseHere m) R
-    unfolding refuseHere
-    here-fails m = record { law = λ k s h. fails }
+    pub passedThen : {B : Type 0} {f : ℕ → Reader Line B} {R : B → Stack → Line → Type 0} → ((t : ℕ) → b ≤ t → t ≤ n → Triple (Checks n) (On b c κ) (f t) R) → Triple (Checks n) (On b c κ) (passed >>= f) R
+    passedThen e = askPassed λ t. derive (λ k s h. between k s h) (λ g. before (λ k s h. h .1) (e t (g .0) (g .1)))
 
-    pub writes : {κ′ : Stack} (r : Record) → statementFrom 0 r ≡ false → Extra r → checked n κ r ≡ some κ′ → Triple n (On b c κ) (write r) (λ _. On b c κ′)
-    unfolding write
-    writes {κ′} r a x e = record { law = λ k s h. holds (cons {k = k} {k′ = κ′} a x (rw (h .same) e) nil) (record { same = refl; low = h .low; gap = h .gap; soon = h .soon; chain = h .chain }) }
+    pub checks : {κ′ : Stack} (r : Record) → statementFrom 0 r ≡ false → Extra r → checked n κ r ≡ some κ′ → Triple (Checks n) (On b c κ) (write r) (λ _. On b c κ′)
+    checks {κ′} r a x e = writes r λ k s h. (κ′, record { inner = a; extra = x; checks = rw (h .same) e }, record { same = refl; low = h .low; gap = h .gap; soon = h .soon; chain = h .chain })
 
-    step-on : (k : Stack) (ys : List Lexeme) (s : Line) → s .more ≡ ys → On b c κ k s → Post n (λ _. On c 0 κ) k (step ys s)
+    step-on : (k : Stack) (ys : List Lexeme) (s : Line) → s .more ≡ ys → On b c κ k s → Post (Checks n) (λ _. On c 0 κ) k (step ys s)
     unfolding step isLineEnd
     step-on k [] s e h =
         let i : Chain n hi (s .here .to) rest = rw e at (h .chain .2) in
-        holds nil (record { same = h .same; low = h .soon; gap = le-refl (s .here .to); soon = zero-le;
-          chain = (le-trans (h .chain .0) (h .chain .1 .ordered), record { ordered = le-refl (s .here .to); strict = λ z. absurd (true≢false z); holds = tt }, i) })
+        holds nil (record {
+          same = h .same;
+          low = h .soon;
+          gap = le-refl (s .here .to);
+          soon = zero-le;
+          chain = (le-trans (h .chain .0) (h .chain .1 .ordered), record { ordered = le-refl (s .here .to); strict = λ z. absurd (true≢false z); holds = tt }, i);
+        })
     step-on k (y ∷ ys) s e h =
         let i : Chain n hi (s .here .to) (y ∷ (ys ++ rest)) = rw e at (h .chain .2) in
         arrive-post y (holds nil (record { same = h .same; low = h .soon; gap = i .0; soon = zero-le; chain = chain-low n hi (s .here .to) p0 (y ∷ (ys ++ rest)) (le-trans (h .chain .0) (h .chain .1 .ordered)) i }))
 
-    pub nexts : Triple n (On b c κ) next (λ _. On c 0 κ)
+    pub nexts : Triple (Checks n) (On b c κ) next (λ _. On c 0 κ)
     unfolding next
     nexts = record { law = λ k s h. step-on k (s .more) s refl h }
 
-  pub expects : {b c : ℕ} {κ : Stack} (a : Char) (m : ℕ) → Triple n (On b c κ) (expect a m) (λ _. On b 0 κ)
+  pub expects : {b c : ℕ} {κ : Stack} (a : Char) (m : ℕ) → Triple (Checks n) (On b c κ) (expect a m) (λ _. On b 0 κ)
   unfolding expect
   expects a m = kindThen _ λ x f. whether (isMark a (x .kind)) (λ e. behind (λ _ k s h. on-less (le-trans (f .later) (f .sound .ordered)) (le-refl 0) h) nexts) (λ e. here-fails m)
 
@@ -404,7 +343,7 @@ module _ (n hi p0 : ℕ) (rest : List Lexeme) where
   pub on-soon : {b c : ℕ} {κ k : Stack} {s : Line} → On b c κ k s → On b b κ k s
   on-soon {s = s} h = record { same = h .same; low = h .low; gap = h .gap; soon = le-trans (h .low) (le-trans (h .gap) (h .chain .1 .ordered)); chain = h .chain }
 
-  from-low : {A : Type 0} {b : ℕ} {κ : Stack} {m : Reader Line A} {R : A → Stack → Line → Type 0} → Triple n (On b b κ) m R → Triple n (On b 0 κ) m R
+  from-low : {A : Type 0} {b : ℕ} {κ : Stack} {m : Reader Line A} {R : A → Stack → Line → Type 0} → Triple (Checks n) (On b b κ) m R → Triple (Checks n) (On b 0 κ) m R
   from-low p = before (λ k s h. on-soon h) p
 
   module _ {C : ℕ → Stack} (ctx : Context p0 C) where
@@ -413,24 +352,24 @@ module _ (n hi p0 : ℕ) (rest : List Lexeme) where
 
     -- one token is one expression
     one : {b c : ℕ} (i : ℕ) (x : Lexeme) → Facts n hi p0 b c x → (r : Record) → statementFrom 0 r ≡ false → Extra r → checked n (C i) r ≡ given (spans n (C i) (x .from) (x .to)) (toExpression 0 (C i))
-        → Triple n (On b (x .to) (C i)) (next >> write r) (λ _. On (x .to) 0 (C (suc i)))
-    one i x f r a e h = andThen nexts (λ _. writes r a e (h ∙ valued i x f))
+        → Triple (Checks n) (On b (x .to) (C i)) (next >> write r) (λ _. On (x .to) 0 (C (suc i)))
+    one i x f r a e h = andThen nexts (λ _. checks r a e (h ∙ valued i x f))
 
-    character-on : {b c : ℕ} (i : ℕ) (closed : Bool) (s : List ℕ) (x : Lexeme) → Small s → Facts n hi p0 b c x → Triple n (On b (x .to) (C i)) (character closed s x) (λ _. On (x .to) 0 (C (suc i)))
+    character-on : {b c : ℕ} (i : ℕ) (closed : Bool) (s : List ℕ) (x : Lexeme) → Small s → Facts n hi p0 b c x → Triple (Checks n) (On b (x .to) (C i)) (character closed s x) (λ _. On (x .to) 0 (C (suc i)))
     unfolding character checked statementFrom
     character-on i false s x h f = here-fails 16
     character-on i true [] x h f = here-fails 17
     character-on i true (c ∷ []) x h f = one i x f (VC (x .from) (x .to) c) refl (h .0) refl
     character-on i true (c ∷ d ∷ s) x h f = here-fails 17
 
-    atomOf-on : {b c : ℕ} (i : ℕ) (k : Kind) (x : Lexeme) → x .kind ≡ k → Facts n hi p0 b c x → Triple n (On b (x .to) (C i)) (atomOf k x) (λ _. On (x .to) 0 (C (suc i)))
+    atomOf-on : {b c : ℕ} (i : ℕ) (k : Kind) (x : Lexeme) → x .kind ≡ k → Facts n hi p0 b c x → Triple (Checks n) (On b (x .to) (C i)) (atomOf k x) (λ _. On (x .to) 0 (C (suc i)))
     unfolding atomOf checked statementFrom
     atomOf-on i (number v) x e f = let z : Holds (number v) (x .from) (x .to) = rw e at (f .sound .holds) in one i x f (VC (x .from) (x .to) v) refl z refl
     atomOf-on i (quoted closed s) x e f = let z : Holds (quoted closed s) (x .from) (x .to) = rw e at (f .sound .holds) in character-on i closed s x (z .1) f
     atomOf-on i (word w) x e f = one i x f (VL (x .from) (x .to)) refl tt refl
     atomOf-on i (mark c) x e f = whether (is "$" c) (λ _. andThen nexts (λ _. kindThen _ λ y g. whether (isMark "$" (y .kind))
-        (λ _. behind (λ _ k s h. on-less (le-trans (g .later) (g .sound .ordered)) (le-refl 0) h) (andThen nexts (λ _. writes (VS (x .from) (x .to)) refl tt (valued i x f))))
-        (λ _. behind (λ _ k s h. on-less (le-refl (x .to)) zero-le h) (writes (VI (x .from) (x .to)) refl tt (valued i x f))))) (λ _. here-fails 21)
+        (λ _. behind (λ _ k s h. on-less (le-trans (g .later) (g .sound .ordered)) (le-refl 0) h) (andThen nexts (λ _. checks _ refl tt (valued i x f))))
+        (λ _. behind (λ _ k s h. on-less (le-refl (x .to)) zero-le h) (checks _ refl tt (valued i x f))))) (λ _. here-fails 21)
     atomOf-on i newline x e f = here-fails 21
     atomOf-on i blank x e f = here-fails 21
     atomOf-on i comment x e f = here-fails 21
@@ -438,33 +377,33 @@ module _ (n hi p0 : ℕ) (rest : List Lexeme) where
     atomOf-on i end x e f = here-fails 21
     atomOf-on i (bad m) x e f = here-fails 21
 
-    module _ {inner : ℕ → Reader Line (Unit {0})} (each : (b c i level : ℕ) → Triple n (On b c (C i)) (inner level) (λ _. On c 0 (C (suc i)))) where
-      primary-on : {b c : ℕ} (i : ℕ) → Triple n (On b c (C i)) (primary inner) (λ _. On c 0 (C (suc i)))
+    module _ {inner : ℕ → Reader Line (Unit {0})} (each : (b c i level : ℕ) → Triple (Checks n) (On b c (C i)) (inner level) (λ _. On c 0 (C (suc i)))) where
+      primary-on : {b c : ℕ} (i : ℕ) → Triple (Checks n) (On b c (C i)) (primary inner) (λ _. On c 0 (C (suc i)))
       unfolding primary atom checked statementFrom
       primary-on i = aheadThen λ x f. behind (λ _ k s h. on-less (f .soon) (le-refl 0) h) (whether (isMark "(" (x .kind))
-        (λ _. andThen (andThen nexts (λ _. from-low (each _ _ i 0))) (λ _. expects ")" 14))
-        (λ _. perhaps (operatorOf (x .kind))
+          (λ _. andThen (andThen nexts (λ _. from-low (each _ _ i 0))) (λ _. expects ")" 14))
+          (λ _. perhaps (operatorOf (x .kind))
           (aheadThen λ y g. behind (λ _ k s h. on-less (g .soon) (le-refl 0) h) (atomOf-on i (y .kind) y refl g))
-          (λ op e. andThen nexts (λ _. andThen {Q = λ _ k s. (ltb op 2 ≡ true) × On (x .to) 0 (C (suc i)) k s} (whether (ltb op 2) (λ h. behind (λ _ k s q. (h, q)) (from-low (each _ _ i prefixLevel))) (λ h. refuses (nowhere 22)))
-            (λ _. known λ h. passedThen λ t j l. writes (PF (x .from) t op) refl tt
-              (ap (λ (o : Bool). given o (toExpression 1 (C (suc i)))) (rw (span-true (C (suc i)) (x .from) t (ctx .places (suc i)) (f .start) (le-trans (f .sound .ordered) j) l, h)) ∙ taken (toExpression 1 (C (suc i))) ∙ ctx .turn i))))))
+          (λ op e. andThen nexts (λ _. andThen {Q = λ _ k s. (ltb op 2 ≡ true) × On (x .to) 0 (C (suc i)) k s} (whether (ltb op 2) (λ h. behind (λ _ k s q. (h, q)) (from-low (each _ _ i prefixLevel))) (λ h. refuses _))
+          (λ _. known λ h. passedThen λ t j l. checks _ refl tt
+          (ap (λ (o : Bool). given o (toExpression 1 (C (suc i)))) (rw (span-true (C (suc i)) (x .from) t (ctx .places (suc i)) (f .start) (le-trans (f .sound .ordered) j) l, h)) ∙ taken (toExpression 1 (C (suc i))) ∙ ctx .turn i))))))
 
-      infixes-on : (b i m level p : ℕ) → p0 ≤ p → p ≤ b → Triple n (On b 0 (C (suc i))) (infixes m inner level p) (λ _. On b 0 (C (suc i)))
+      infixes-on : (b i m level p : ℕ) → p0 ≤ p → p ≤ b → Triple (Checks n) (On b 0 (C (suc i))) (infixes m inner level p) (λ _. On b 0 (C (suc i)))
       unfolding infixes checked statementFrom
       infixes-on b i zero level p u v = returns tt (λ k s h. h)
       infixes-on b i (suc m) level p u v = kindThen _ λ x f. perhaps (operatorOf (x .kind)) (returns tt (λ k s h. on-less (le-refl b) zero-le h)) λ op e.
-        whether (ltb (leftLevel op) level) (λ _. returns tt (λ k s h. on-less (le-refl b) zero-le h)) (λ _. andThen nexts (λ _. andThen (from-low (each _ _ (suc i) (rightLevel op)))
-          (λ _. passedThen λ t j l. andThen (writes (IN p t op) refl tt
-              (ap (λ (o : Bool). given o (toExpression 2 (C (suc (suc i))))) (rw (span-true (C (suc (suc i))) p t (ctx .places (suc (suc i))) u (omega (arith, f .later, f .sound .ordered)) l, lt-ltb op 4 (operator-small (x .kind) op e))) ∙ taken (toExpression 2 (C (suc (suc i)))) ∙ ctx .join i))
-            (λ _. before (λ k s h. on-less (le-trans (f .later) (f .sound .ordered)) (le-refl 0) h) (infixes-on b i m level p u v)))))
+          whether (ltb (leftLevel op) level) (λ _. returns tt (λ k s h. on-less (le-refl b) zero-le h)) (λ _. andThen nexts (λ _. andThen (from-low (each _ _ (suc i) (rightLevel op)))
+          (λ _. passedThen λ t j l. andThen (checks _ refl tt
+          (ap (λ (o : Bool). given o (toExpression 2 (C (suc (suc i))))) (rw (span-true (C (suc (suc i))) p t (ctx .places (suc (suc i))) u (omega (arith, f .later, f .sound .ordered)) l, lt-ltb op 4 (operator-small (x .kind) op e))) ∙ taken (toExpression 2 (C (suc (suc i)))) ∙ ctx .join i))
+          (λ _. before (λ k s h. on-less (le-trans (f .later) (f .sound .ordered)) (le-refl 0) h) (infixes-on b i m level p u v)))))
 
-    expr-on : (d b c i level : ℕ) → Triple n (On b c (C i)) (expr d level) (λ _. On c 0 (C (suc i)))
+    expr-on : (d b c i level : ℕ) → Triple (Checks n) (On b c (C i)) (expr d level) (λ _. On c 0 (C (suc i)))
     unfolding expr
     expr-on zero b c i level = here-fails 3
     expr-on (suc d) b c i level = aheadThen λ x f. behind (λ _ k s h. on-less (f .soon) (le-refl 0) h) (andThen (primary-on (expr-on d) i)
-        (λ _. leftThen λ m. infixes-on (expr-on d) (x .to) i m level (x .from) (f .start) (f .sound .ordered)))
+        (λ _. askLeft λ m. infixes-on (expr-on d) (x .to) i m level (x .from) (f .start) (f .sound .ordered)))
 
-    pub expression-on : {b c : ℕ} (i : ℕ) → Triple n (On b c (C i)) expression (λ _. On c 0 (C (suc i)))
+    pub expression-on : {b c : ℕ} (i : ℕ) → Triple (Checks n) (On b c (C i)) expression (λ _. On c 0 (C (suc i)))
     unfolding expression
     expression-on {b} {c} i = expr-on 32 b c i 0
 
@@ -478,36 +417,36 @@ module _ (n hi p0 : ℕ) (rest : List Lexeme) where
       unfolding given
       written-plain i f t o u v l e = rw (span-true (C i) f t (ctx .places i) u v l) e
 
-      immediate-on : {b c : ℕ} → Triple n (On b c (C 0)) immediateOrFar (λ _. On c 0 D)
+      immediate-on : {b c : ℕ} → Triple (Checks n) (On b c (C 0)) immediateOrFar (λ _. On c 0 D)
       unfolding immediateOrFar checked statementFrom
       immediate-on = aheadThen λ x f. behind (λ _ k s h. on-less (f .soon) (le-refl 0) h) (andThen (expression-on 0) (λ _. kindThen _ λ y g. whether (isMark ":" (y .kind))
           (λ _. behind (λ _ k s h. on-less (le-trans (g .later) (g .sound .ordered)) (le-refl 0) h) (andThen nexts (λ _. andThen (from-low (expression-on 1)) (λ _. passedThen λ t j l.
-            writes (OF (x .from) t) refl tt (written-plain 2 (x .from) t _ (f .start) (omega (arith, f .sound .ordered, g .later, g .sound .ordered)) l double)))))
-          (λ _. behind (λ _ k s h. on-less (le-refl (x .to)) zero-le h) (passedThen λ t j l. writes (OI (x .from) t) refl tt (written-plain 1 (x .from) t _ (f .start) (le-trans (f .sound .ordered) j) l single)))))
+          checks _ refl tt (written-plain 2 (x .from) t _ (f .start) (omega (arith, f .sound .ordered, g .later, g .sound .ordered)) l double)))))
+          (λ _. behind (λ _ k s h. on-less (le-refl (x .to)) zero-le h) (passedThen λ t j l. checks _ refl tt (written-plain 1 (x .from) t _ (f .start) (le-trans (f .sound .ordered) j) l single)))))
 
       -- the registers of a bracket, past b
-      plusIndex-on : {b c : ℕ} (f r : ℕ) → Triple n (On b c (C 0)) (plusIndex f r) (λ o k s. Coded o × On c 0 (C 0) k s)
+      plusIndex-on : {b c : ℕ} (f r : ℕ) → Triple (Checks n) (On b c (C 0)) (plusIndex f r) (λ o k s. Coded o × On c 0 (C 0) k s)
       unfolding plusIndex
       plusIndex-on f r = andThen nexts (λ _. aheadThen λ x g. perhaps (nameIn registers (x .kind)) (returns none (λ k s h. (tt, on-less (le-refl _) zero-le h))) λ q e.
           whether (isIndex q)
-            (λ _. andThen nexts (λ _. passedThen λ t j l. whether (isIndex r) (λ _. refuses (at 33 f t))
-              (λ _. returns (some (paired r q)) (λ k s h. (paired-small r q, on-less (le-trans (g .later) (g .sound .ordered)) (le-refl 0) h)))))
-            (λ _. refuses (encoding f (x .to) r q)))
+          (λ _. andThen nexts (λ _. passedThen λ t j l. whether (isIndex r) (λ _. refuses _)
+          (λ _. returns (some (paired r q)) (λ k s h. (paired-small r q, on-less (le-trans (g .later) (g .sound .ordered)) (le-refl 0) h)))))
+          (λ _. refuses _))
 
-      second-on : {b c : ℕ} (f r : ℕ) → Triple n (On b c (C 0)) (second f r) (λ e k s. (e < 8) × On b 0 (C 0) k s)
+      second-on : {b c : ℕ} (f r : ℕ) → Triple (Checks n) (On b c (C 0)) (second f r) (λ e k s. (e < 8) × On b 0 (C 0) k s)
       unfolding second
       second-on {b} f r = kindThen _ λ x g. whether (isMark "+" (x .kind))
           (λ _. attempts (alone r) (λ e k t h. (h .0, on-less (le-trans (g .later) (g .sound .ordered)) (le-refl 0) (h .1))) (λ k s h. (alone-small r, on-less (le-refl b) zero-le h)) (plusIndex-on f r))
           (λ _. returns (alone r) (λ k s h. (alone-small r, on-less (le-refl b) zero-le h)))
 
-      registersAhead-on : {b c : ℕ} → Triple n (On b c (C 0)) registersAhead (λ o k s. Coded o × On b 0 (C 0) k s)
+      registersAhead-on : {b c : ℕ} → Triple (Checks n) (On b c (C 0)) registersAhead (λ o k s. Coded o × On b 0 (C 0) k s)
       unfolding registersAhead
       registersAhead-on {b} = aheadThen λ x g. passedThen λ t j l. perhaps (nameIn registers (x .kind)) (returns none (λ k s h. (tt, on-less (le-refl b) zero-le h))) λ r e.
           whether (isBase r || isIndex r)
-            (λ _. andThen nexts (λ _. bind (second-on (x .from) r) λ q. known λ i. returns (some q) (λ k s h. (i, on-less (le-trans (g .later) (g .sound .ordered)) (le-refl 0) h))))
-            (λ _. refuses (encoding (x .from) t r 255))
+          (λ _. andThen nexts (λ _. bind (second-on (x .from) r) λ q. known λ i. returns (some q) (λ k s h. (i, on-less (le-trans (g .later) (g .sound .ordered)) (le-refl 0) h))))
+          (λ _. refuses _)
 
-      displacement-on : {b c : ℕ} → Triple n (On b c (C 0)) displacement (λ d k s. (d ≤ 1) × On b 0 (C d) k s)
+      displacement-on : {b c : ℕ} → Triple (Checks n) (On b c (C 0)) displacement (λ d k s. (d ≤ 1) × On b 0 (C d) k s)
       unfolding displacement
       displacement-on {b} = kindThen _ λ x g. whether (isMark "]" (x .kind)) (λ _. returns 0 (λ k s h. (zero-le, on-less (le-refl b) zero-le h)))
           (λ _. andThen (expression-on 0) (λ _. returns 1 (λ k s h. (le-refl 1, on-less (le-trans (g .later) (g .sound .ordered)) (le-refl 0) h))))
@@ -517,76 +456,77 @@ module _ (n hi p0 : ℕ) (rest : List Lexeme) where
       operand-of (suc zero) h = single
       operand-of (suc (suc d)) h = absurd (omega arith)
 
-      close-on : {b c : ℕ} (f size segment : ℕ) (e : Option ℕ) (has : ℕ) → p0 ≤ f → f ≤ b → size ≤ 2 → segment ≤ 4 → Coded e → has ≤ 1 → Triple n (On b c (C has)) (close f size segment e has) (λ _. On b 0 D)
+      close-on : {b c : ℕ} (f size segment : ℕ) (e : Option ℕ) (has : ℕ) → p0 ≤ f → f ≤ b → size ≤ 2 → segment ≤ 4 → Coded e → has ≤ 1 → Triple (Checks n) (On b c (C has)) (close f size segment e has) (λ _. On b 0 D)
       unfolding close checked statementFrom given
       close-on f size segment e has u v z g q h = andThen (expects "]" 13) (λ _. passedThen λ t j l. coded e q t (le-trans v j) l)
         where
-          coded : {b : ℕ} (e : Option ℕ) → Coded e → (t : ℕ) → f ≤ t → t ≤ n → Triple n (On b 0 (C has)) (maybe e (if eqb has 0 then (refuse (at 32 f t)) else (write (OD f t size segment))) (λ m. write (OX f t m has size segment))) (λ _. On b 0 D)
-          coded none q t j l = whether (eqb has 0) (λ _. refuses (at 32 f t)) (λ o. writes (OD f t size segment) refl tt
-            (rw (span-true (C has) f t (ctx .places has) u j l, le-leb size 2 z, le-leb segment 4 g) (ap (λ (m : ℕ). toOperand 1 (C m)) (one-has has h o) ∙ single)))
-          coded (some m) q t j l = writes (OX f t m has size segment) refl tt
-            (rw (span-true (C has) f t (ctx .places has) u j l, lt-ltb m 8 q, le-leb has 1 h, le-leb size 2 z, le-leb segment 4 g) (operand-of has h))
+          coded : {b : ℕ} (e : Option ℕ) → Coded e → (t : ℕ) → f ≤ t → t ≤ n → Triple (Checks n) (On b 0 (C has)) (maybe e (if eqb has 0 then (refuse (at 32 f t)) else (write (OD f t size segment))) (λ m. write (OX f t m has size segment))) (λ _. On b 0 D)
+          coded none q t j l = whether (eqb has 0) (λ _. refuses _) (λ o. checks _ refl tt
+              (rw (span-true (C has) f t (ctx .places has) u j l, le-leb size 2 z, le-leb segment 4 g) (ap (λ (m : ℕ). toOperand 1 (C m)) (one-has has h o) ∙ single)))
+          coded (some m) q t j l = checks _ refl tt
+              (rw (span-true (C has) f t (ctx .places has) u j l, lt-ltb m 8 q, le-leb has 1 h, le-leb size 2 z, le-leb segment 4 g) (operand-of has h))
 
-      override-on : {b c : ℕ} → Triple n (On b c (C 0)) override (λ z k s. (z ≤ 4) × On b 0 (C 0) k s)
+      override-on : {b c : ℕ} → Triple (Checks n) (On b c (C 0)) override (λ z k s. (z ≤ 4) × On b 0 (C 0) k s)
       unfolding override
       override-on {b} = kindThen _ λ x g. perhaps (nameIn segments (x .kind)) (returns 0 (λ k s h. (zero-le, on-less (le-refl b) zero-le h)))
           λ z e. andThen nexts (λ _. andThen (expects ":" 12) (λ _. returns (suc z) (λ k s h. (segment-small (x .kind) z e, on-less (le-trans (g .later) (g .sound .ordered)) (le-refl 0) h))))
 
-      memory-on : {b c : ℕ} (size : ℕ) → size ≤ 2 → Triple n (On b c (C 0)) (memory size) (λ _. On c 0 D)
+      memory-on : {b c : ℕ} (size : ℕ) → size ≤ 2 → Triple (Checks n) (On b c (C 0)) (memory size) (λ _. On c 0 D)
       unfolding memory
       memory-on size z = aheadThen λ x f. behind (λ _ k s h. on-less (f .soon) (le-refl 0) h) (andThen nexts (λ _. kindThen _ λ y g. whether (isWord (y .kind))
           (λ _. bind override-on λ o. known λ i. bind registersAhead-on λ e. known λ q. bind displacement-on λ d. known λ j. close-on (x .from) size o e d (f .start) (f .sound .ordered) z i q j)
           (λ _. whether (isNumber (y .kind))
-            (λ _. behind (λ _ k s h. on-less (le-trans (g .later) (g .sound .ordered)) (le-refl 0) h) (andThen (expression-on 0)
-              (λ _. close-on (x .from) size 0 none 1 (f .start) (omega (arith, f .sound .ordered, g .later, g .sound .ordered)) z zero-le tt (le-refl 1))))
-            (λ _. here-fails 24))))
+          (λ _. behind (λ _ k s h. on-less (le-trans (g .later) (g .sound .ordered)) (le-refl 0) h) (andThen (expression-on 0)
+          (λ _. close-on (x .from) size 0 none 1 (f .start) (omega (arith, f .sound .ordered, g .later, g .sound .ordered)) z zero-le tt (le-refl 1))))
+          (λ _. here-fails 24))))
 
-      operandSized-on : {b c : ℕ} (m size : ℕ) → size ≤ 2 → Triple n (On b c (C 0)) (operandSized m size) (λ _. On c 0 D)
+      operandSized-on : {b c : ℕ} (m size : ℕ) → size ≤ 2 → Triple (Checks n) (On b c (C 0)) (operandSized m size) (λ _. On c 0 D)
       unfolding operandSized checked statementFrom given
       operandSized-on zero size z = immediate-on
       operandSized-on (suc m) size z = aheadThen λ x f. behind (λ _ k s h. on-less (f .soon) (le-refl 0) h) (whether (isMark "[" (x .kind)) (λ _. memory-on size z)
           (λ _. perhaps (nameIn registers (x .kind)) (perhaps (nameIn segments (x .kind)) (perhaps (nameIn sizes (x .kind)) immediate-on
-            (λ q e. andThen nexts (λ _. from-low (operandSized-on m (suc q) (size-small (x .kind) q e)))))
-            (λ q e. andThen nexts (λ _. writes (OS (x .from) (x .to) q) refl tt
-              (rw (span-true (C 0) (x .from) (x .to) (ctx .places 0) (f .start) (f .sound .ordered) (f .inside), lt-ltb q 4 (segment-small (x .kind) q e)) lone))))
-            (λ q e. andThen nexts (λ _. writes (OR (x .from) (x .to) q) refl tt
-              (rw (span-true (C 0) (x .from) (x .to) (ctx .places 0) (f .start) (f .sound .ordered) (f .inside), lt-ltb q 16 (register-small (x .kind) q e)) lone)))))
+          (λ q e. andThen nexts (λ _. from-low (operandSized-on m (suc q) (size-small (x .kind) q e)))))
+          (λ q e. andThen nexts (λ _. checks _ refl tt
+          (rw (span-true (C 0) (x .from) (x .to) (ctx .places 0) (f .start) (f .sound .ordered) (f .inside), lt-ltb q 4 (segment-small (x .kind) q e)) lone))))
+          (λ q e. andThen nexts (λ _. checks _ refl tt
+          (rw (span-true (C 0) (x .from) (x .to) (ctx .places 0) (f .start) (f .sound .ordered) (f .inside), lt-ltb q 16 (register-small (x .kind) q e)) lone)))))
 
-      pub operand-on : {b c : ℕ} → Triple n (On b c (C 0)) operand (λ _. On c 0 D)
+      pub operand-on : {b c : ℕ} → Triple (Checks n) (On b c (C 0)) operand (λ _. On c 0 D)
       unfolding operand
-      operand-on = leftThen λ m. operandSized-on (suc m) 0 zero-le
-
+      operand-on = askLeft λ m. operandSized-on (suc m) 0 zero-le
 
   -- The operands of an instruction, past b, with e expressions below.
-  pub operands-on : {b c : ℕ} (e : ℕ) → p0 ≤ b → Triple n (On b c (open′ p0 e 0 0)) operands (λ o k s. Counted n p0 o × On b 0 (open′ p0 e (o .count) 0) k s)
+  pub operands-on : {b c : ℕ} (e : ℕ) → p0 ≤ b → Triple (Checks n) (On b c (open′ p0 e 0 0)) operands (λ o k s. Counted n p0 o × On b 0 (open′ p0 e (o .count) 0) k s)
   unfolding operands
   operands-on {b} e u = aheadThen λ x f. passedThen λ l j i. whether (isLineEnd (x .kind))
       (λ _. returns (record { count = 0; from = l; to = l }) (λ k s h. (record { few = zero-le; start = le-trans u j; ordered = le-refl l; inside = i }, on-less (le-refl b) zero-le h)))
       (λ _. andThen (operand-on (first-context p0 e) (operand-first p0 0 e e zero-le (omega arith)) (operand-first p0 1 (suc e) e (omega arith) (omega arith)) (operand-first p0 2 (suc (suc e)) e (omega arith) (omega arith)))
-        (λ _. kindThen _ λ y g. whether (isLineEnd (y .kind))
-          (λ _. passedThen λ t j i. returns (record { count = 1; from = x .from; to = t }) (λ k s h. (record { few = omega arith; start = f .start; ordered = le-trans (f .sound .ordered) j; inside = i }, on-less (le-trans (f .later) (f .sound .ordered)) zero-le h)))
-          (λ _. whether (isMark "," (y .kind))
-            (λ _. andThen nexts (λ _. andThen (from-low (operand-on (second-context p0 e) (operand-second p0 0 e) (operand-second p0 1 e) (operand-second p0 2 e)))
-              (λ _. passedThen λ t j i. returns (record { count = 2; from = x .from; to = t }) (λ k s h. (record { few = omega arith; start = f .start; ordered = omega (arith, f .sound .ordered, g .later, g .sound .ordered); inside = i },
-                on-less (omega (arith, f .later, f .sound .ordered, g .later, g .sound .ordered)) (le-refl 0) h)))))
-            (λ _. here-fails 11))))
+      (λ _. kindThen _ λ y g. whether (isLineEnd (y .kind))
+      (λ _. passedThen λ t j i. returns (record { count = 1; from = x .from; to = t }) (λ k s h. (record { few = omega arith; start = f .start; ordered = le-trans (f .sound .ordered) j; inside = i }, on-less (le-trans (f .later) (f .sound .ordered)) zero-le h)))
+      (λ _. whether (isMark "," (y .kind))
+      (λ _. andThen nexts (λ _. andThen (from-low (operand-on (second-context p0 e) (operand-second p0 0 e) (operand-second p0 1 e) (operand-second p0 2 e)))
+      (λ _. passedThen λ t j i. returns (record { count = 2; from = x .from; to = t }) (λ k s h. (
+        record { few = omega arith; start = f .start; ordered = omega (arith, f .sound .ordered, g .later, g .sound .ordered); inside = i },
+        on-less (omega (arith, f .later, f .sound .ordered, g .later, g .sound .ordered)) (le-refl 0) h,
+      )))))
+      (λ _. here-fails 11))))
 
   -- The bytes of literals: at most four for each of their characters.
   abbrev pub Data : ℕ → Stack → List ℕ → Stack → Line → Type 0
   Data b κ ds k s = (length ds + 4 * b ≤ 4 * s .last) × On b 0 κ k s
 
-  no-data : {b c : ℕ} {κ : Stack} → Triple n (On b c κ) (return []) (λ ds. Data b κ ds)
+  no-data : {b c : ℕ} {κ : Stack} → Triple (Checks n) (On b c κ) (return []) (λ ds. Data b κ ds)
   no-data {b} = returns [] (λ k s h. (omega (arith, h .low), on-less (le-refl b) zero-le h))
 
-  module _ {κ : Stack} {others : Reader Line (List ℕ)} (rest′ : (b : ℕ) → Triple n (On b 0 κ) others (λ ds. Data b κ ds)) where
-    chunk : {b c : ℕ} (x : Lexeme) (g : List ℕ) → Facts n hi p0 b c x → length g + 4 * x .from ≤ 4 * x .to → Triple n (On b (x .to) κ) (next >> others >>= λ ds. return (g ++ ds)) (λ ds. Data b κ ds)
+  module _ {κ : Stack} {others : Reader Line (List ℕ)} (rest′ : (b : ℕ) → Triple (Checks n) (On b 0 κ) others (λ ds. Data b κ ds)) where
+    chunk : {b c : ℕ} (x : Lexeme) (g : List ℕ) → Facts n hi p0 b c x → length g + 4 * x .from ≤ 4 * x .to → Triple (Checks n) (On b (x .to) κ) (next >> others >>= λ ds. return (g ++ ds)) (λ ds. Data b κ ds)
     chunk {b} x g f i = bind (andThen nexts (λ _. rest′ (x .to))) λ ds. returns (g ++ ds) (λ k s h.
         (omega (arith, length-append g ds, h .0, f .later), on-less (le-trans (f .later) (f .sound .ordered)) (le-refl 0) (h .1)))
 
-    comma : {b c : ℕ} (x : Lexeme) → Facts n hi p0 b c x → Triple n (On b (x .to) κ) (next >> others) (λ ds. Data b κ ds)
+    comma : {b c : ℕ} (x : Lexeme) → Facts n hi p0 b c x → Triple (Checks n) (On b (x .to) κ) (next >> others) (λ ds. Data b κ ds)
     comma {b} x f = behind (λ ds k s h. (omega (arith, h .0, f .later, f .sound .ordered), on-less (le-trans (f .later) (f .sound .ordered)) (le-refl 0) (h .1))) (andThen nexts (λ _. rest′ (x .to)))
 
-    literalOf-on : {b c : ℕ} (k : Kind) (x : Lexeme) (width : ℕ) → x .kind ≡ k → Facts n hi p0 b c x → Triple n (On b (x .to) κ) (literalOf k width others) (λ ds. Data b κ ds)
+    literalOf-on : {b c : ℕ} (k : Kind) (x : Lexeme) (width : ℕ) → x .kind ≡ k → Facts n hi p0 b c x → Triple (Checks n) (On b (x .to) κ) (literalOf k width others) (λ ds. Data b κ ds)
     unfolding literalOf isLineEnd
     literalOf-on newline x width e f = no-data
     literalOf-on end x width e f = no-data
@@ -603,13 +543,13 @@ module _ (n hi p0 : ℕ) (rest : List Lexeme) where
     literalOf-on invalid x width e f = here-fails 15
     literalOf-on (bad m) x width e f = here-fails 15
 
-  pub literals-on : {b c : ℕ} {κ : Stack} (m width : ℕ) → Triple n (On b c κ) (literals m width) (λ ds. Data b κ ds)
+  pub literals-on : {b c : ℕ} {κ : Stack} (m width : ℕ) → Triple (Checks n) (On b c κ) (literals m width) (λ ds. Data b κ ds)
   unfolding literals
   literals-on zero width = no-data
   literals-on (suc m) width = kindThen _ λ x f. literalOf-on (λ b. literals-on m width) (x .kind) x width refl f
 
   -- A label, whose word x is passed.
-  pub label-on : {b c : ℕ} (e : ℕ) (x : Lexeme) → p0 ≤ x .from → x .from ≤ x .to → x .to ≤ n → Triple n (On b c (open′ p0 e 0 0)) (label x) (λ _. On b 0 (shut p0 e))
+  pub label-on : {b c : ℕ} (e : ℕ) (x : Lexeme) → p0 ≤ x .from → x .from ≤ x .to → x .to ≤ n → Triple (Checks n) (On b c (open′ p0 e 0 0)) (label x) (λ _. On b 0 (shut p0 e))
   unfolding label checked statementFrom
   label-on {b} e x u v l = kindThen _ λ y g. andThen (whether (isMark ":" (y .kind)) (λ _. behind (λ _ k s h. on-less (le-trans (g .later) (g .sound .ordered)) (le-refl 0) h) nexts) (λ _. returns tt (λ k s h. on-less (le-refl b) zero-le h)))
-      (λ _. writes (LL (x .from) (x .to)) refl tt (ap (λ (o : Bool). given o (toLine 0 0 (open′ p0 e 0 0))) (span-true (open′ p0 e 0 0) (x .from) (x .to) (place-open p0 e) u v l) ∙ taken (toLine 0 0 (open′ p0 e 0 0)) ∙ to-line p0 0 0 e e zero-le (omega arith)))
+      (λ _. checks _ refl tt (ap (λ (o : Bool). given o (toLine 0 0 (open′ p0 e 0 0))) (span-true (open′ p0 e 0 0) (x .from) (x .to) (place-open p0 e) u v l) ∙ taken (toLine 0 0 (open′ p0 e 0 0)) ∙ to-line p0 0 0 e e zero-le (omega arith)))

@@ -21,7 +21,8 @@ use Rattle.rules.proofs.Append.{after-nil}
 use Rattle.rules.specs.WellFormed.{Stack, stack, allow, toLine, complete, spans, given, checked, checkedAll}
 use Rattle.rules.specs.Patch.{statementFrom}
 use Rattle.rules.proofs.Table.{Proper}
-use Rattle.rules.proofs.Shape.{Extra, Sound, Chain, chain-le, chain-low, Run, nil, cons, run-append, Post, holds, fails, Triple, after-post, thence-post, bind, andThen, whether, perhaps, returns, refuses, before, behind, known, derive, arrive-post, taken, On, Facts, facts, on-less, on-soon, nexts, span-true, Context, open′, shut, up, to-line, first-context, place-open, expression-on, operands-on, Counted, Data, literals-on, label-on, operation-small}
+use Rattle.rules.proofs.Hoare.{Run, nil, Post, holds, fails, Triple, bind, andThen, whether, perhaps, refuses, writes, before, behind, known, derive, arrive-post, inLines, askAheadS, askKindS, askPassedS, askLeftS, here-failsS}
+use Rattle.rules.proofs.Shape.{Extra, Sound, Chain, chain-le, chain-low, Checks, taken, On, Facts, facts, between, on-less, on-soon, nexts, span-true, Context, open′, shut, up, to-line, first-context, place-open, expression-on, operands-on, Counted, Data, literals-on, label-on, operation-small}
 
 abbrev pub flat : List Row → List Lexeme
 flat [] = []
@@ -43,94 +44,69 @@ module _ (n hi p0 : ℕ) where
   abbrev pub OnS : ℕ → ℕ → Stack → Stack → State → Type 0
   OnS b c κ k s = On n hi p0 (flat (s .below)) b c κ k (s .line)
 
-  over-post : {A : Type 0} {Q : A → Stack → Line → Type 0} {R : A → Stack → State → Type 0} {k : Stack} (rs : List Row) → ((a : A) (k : Stack) (l : Line) → Q a k l → R a k (record { line = l; below = rs }))
-      → {p : Answer Line A} → Post n Q k p → Post n R k (over rs p)
-  unfolding over
-  over-post rs e (holds {a = a} {s = l} {k′} r q) = holds r (e a k′ l q)
-  over-post rs e fails = fails
-
-  inLines : {A : Type 0} {b c : ℕ} {κ : Stack} {m : Reader Line A} (Q : List Lexeme → A → Stack → Line → Type 0) → ((rest : List Lexeme) → Triple n (On n hi p0 rest b c κ) m (Q rest))
-      → Triple n (OnS b c κ) (inLine m) (λ a k s. Q (flat (s .below)) a k (s .line))
-  unfolding inLine
-  inLines Q e = record { law = λ k s h. over-post (s .below) (λ a k l q. q) (e (flat (s .below)) .law k (s .line) h) }
-
   -- in a line, to a bound and a stack
-  inOn : {A : Type 0} {b c b′ : ℕ} {κ κ′ : Stack} {m : Reader Line A} → ((rest : List Lexeme) → Triple n (On n hi p0 rest b c κ) m (λ _. On n hi p0 rest b′ 0 κ′)) → Triple n (OnS b c κ) (inLine m) (λ _. OnS b′ 0 κ′)
-  inOn {b′ = b′} {κ′ = κ′} e = inLines (λ rest _. On n hi p0 rest b′ 0 κ′) e
+  inOn : {A : Type 0} {b c b′ : ℕ} {κ κ′ : Stack} {m : Reader Line A} → ((rest : List Lexeme) → Triple (Checks n) (On n hi p0 rest b c κ) m (λ _. On n hi p0 rest b′ 0 κ′)) → Triple (Checks n) (OnS b c κ) (inLine m) (λ _. OnS b′ 0 κ′)
+  inOn {b = b} {c} {b′} {κ} {κ′} e = inLines (λ rs. On n hi p0 (flat rs) b c κ) (λ rs _. On n hi p0 (flat rs) b′ 0 κ′) (λ rs. e (flat rs))
 
   module _ {b c : ℕ} {κ : Stack} where
-    aheadS : {B : Type 0} {f : Lexeme → Reader State B} {R : B → Stack → State → Type 0} → ((x : Lexeme) → Facts n hi p0 b c x → Triple n (OnS b (x .to) κ) (f x) R) → Triple n (OnS b c κ) (inLine ahead >>= f) R
-    unfolding ahead _>>=_ thence inLine over
-    aheadS {f = f} e = record { law = λ k s h. after-post nil (e (s .line .here) (facts n hi p0 (flat (s .below)) b c κ k (s .line) h) .law k s
-        (record { same = h .same; low = h .low; gap = h .gap; soon = le-refl (s .line .here .to); chain = h .chain })) }
+    at-token : {A : Type 0} {m : Reader State A} {R : A → Stack → State → Type 0} (x : Lexeme) → (Facts n hi p0 b c x → Triple (Checks n) (OnS b (x .to) κ) m R)
+        → Triple (Checks n) (λ k s. (s .line .here ≡ x) × OnS b c κ k s) m R
+    at-token x e = record {
+      law = λ k s h.
+          let i : x .to ≤ s .line .here .to = rw (h .0) (le-refl (x .to)) in
+          e (rw (h .0) at (facts n hi p0 (flat (s .below)) b c κ k (s .line) (h .1))) .law k s (record { same = h .1 .same; low = h .1 .low; gap = h .1 .gap; soon = i; chain = h .1 .chain });
+    }
 
-    kindS : {B : Type 0} (f : Kind → Reader State B) {R : B → Stack → State → Type 0} → ((x : Lexeme) → Facts n hi p0 b c x → Triple n (OnS b (x .to) κ) (f (x .kind)) R) → Triple n (OnS b c κ) (inLine kind >>= f) R
-    unfolding kind _>>=_ thence inLine over
-    kindS f e = record { law = λ k s h. after-post nil (e (s .line .here) (facts n hi p0 (flat (s .below)) b c κ k (s .line) h) .law k s
-        (record { same = h .same; low = h .low; gap = h .gap; soon = le-refl (s .line .here .to); chain = h .chain })) }
+    aheadS : {B : Type 0} {f : Lexeme → Reader State B} {R : B → Stack → State → Type 0} → ((x : Lexeme) → Facts n hi p0 b c x → Triple (Checks n) (OnS b (x .to) κ) (f x) R) → Triple (Checks n) (OnS b c κ) (inLine ahead >>= f) R
+    aheadS e = askAheadS λ x. at-token x (e x)
 
-    here-failsS : {A : Type 0} {R : A → Stack → State → Type 0} (m : ℕ) → Triple n (OnS b c κ) (inLine (refuseHere m)) R
-    unfolding refuseHere inLine over
-    here-failsS m = record { law = λ k s h. fails }
+    kindS : {B : Type 0} (f : Kind → Reader State B) {R : B → Stack → State → Type 0} → ((x : Lexeme) → Facts n hi p0 b c x → Triple (Checks n) (OnS b (x .to) κ) (f (x .kind)) R) → Triple (Checks n) (OnS b c κ) (inLine kind >>= f) R
+    kindS f e = askKindS f λ x. at-token x (e x)
 
-    writesS : {κ′ : Stack} (r : Record) → statementFrom 0 r ≡ false → Extra r → checked n κ r ≡ some κ′ → Triple n (OnS b c κ) (write r) (λ _. OnS b c κ′)
-    unfolding write
-    writesS {κ′} r a x e = record { law = λ k s h. holds (cons {k = k} {k′ = κ′} a x (rw (h .same) e) nil) (record { same = refl; low = h .low; gap = h .gap; soon = h .soon; chain = h .chain }) }
+    checksS : {κ′ : Stack} (r : Record) → statementFrom 0 r ≡ false → Extra r → checked n κ r ≡ some κ′ → Triple (Checks n) (OnS b c κ) (write r) (λ _. OnS b c κ′)
+    checksS {κ′} r a x e = writes r λ k s h. (κ′, record { inner = a; extra = x; checks = rw (h .same) e }, record { same = refl; low = h .low; gap = h .gap; soon = h .soon; chain = h .chain })
 
     -- to the first token of a row below
     row-on : (k : Stack) (l : Line) (r : Row) (rs : List Row) → On n hi p0 (flat (r ∷ rs)) b c κ k l → On n hi p0 (flat rs) b 0 κ k (firstOf r)
     unfolding firstOf
     row-on k l r rs h =
         let (lo, i, j) = chain-drop n hi (l .here .to) (l .more) (flat (r ∷ rs)) (h .chain .2) in
-        record { same = h .same; low = le-trans (h .low) (le-trans (h .gap) (le-trans (h .chain .1 .ordered) (le-trans i (j .0)))); gap = le-refl (r .first .from); soon = zero-le;
-          chain = chain-low n hi lo p0 (flat (r ∷ rs)) (le-trans (h .chain .0) (le-trans (h .chain .1 .ordered) i)) j }
+        record {
+          same = h .same;
+          low = le-trans (h .low) (le-trans (h .gap) (le-trans (h .chain .1 .ordered) (le-trans i (j .0))));
+          gap = le-refl (r .first .from);
+          soon = zero-le;
+          chain = chain-low n hi lo p0 (flat (r ∷ rs)) (le-trans (h .chain .0) (le-trans (h .chain .1 .ordered) i)) j;
+        }
 
-    stepRow-on : (k : Stack) (l : Line) (rs : List Row) → On n hi p0 (flat rs) b c κ k l → Post n (λ _. OnS b 0 κ) k (stepRow rs (record { line = l; below = rs }))
+    stepRow-on : (k : Stack) (l : Line) (rs : List Row) → On n hi p0 (flat rs) b c κ k l → Post (Checks n) (λ _. OnS b 0 κ) k (stepRow rs (record { line = l; below = rs }))
     unfolding stepRow enter
     stepRow-on k l [] h = holds nil (on-less n hi p0 [] (le-refl b) zero-le h)
     stepRow-on k l (r ∷ rs) h = arrive-post (r .first) (holds nil (row-on k l r rs h))
 
-    nextRow-on : Triple n (OnS b c κ) nextRow (λ _. OnS b 0 κ)
+    nextRow-on : Triple (Checks n) (OnS b c κ) nextRow (λ _. OnS b 0 κ)
     unfolding nextRow
     nextRow-on = record { law = λ k s h. stepRow-on k (s .line) (s .below) h }
 
-  passedS : {B : Type 0} {f : ℕ → Reader State B} {P : Stack → State → Type 0} {R : B → Stack → State → Type 0} → ((t : ℕ) → Triple n (λ k s. (s .line .last ≡ t) × P k s) (f t) R) → Triple n P (inLine passed >>= f) R
-  unfolding passed _>>=_ thence inLine over
-  passedS e = record { law = λ k s h. after-post nil (e (s .line .last) .law k s (refl, h)) }
-
-  leftS : {B : Type 0} {f : ℕ → Reader State B} {P : Stack → State → Type 0} {R : B → Stack → State → Type 0} → ((m : ℕ) → Triple n P (f m) R) → Triple n P (inLine left >>= f) R
-  unfolding left _>>=_ thence inLine over
-  leftS e = record { law = λ k s h. after-post nil (e (length (s .line .more)) .law k s h) }
-
-  skip-on : {b c : ℕ} {κ : Stack} (k : Stack) (l : Line) (rs : List Row) → On n hi p0 (flat rs) b c κ k l → Post n (λ _. OnS b 0 κ) k (skip l rs)
+  skip-on : {b c : ℕ} {κ : Stack} (k : Stack) (l : Line) (rs : List Row) → On n hi p0 (flat rs) b c κ k l → Post (Checks n) (λ _. OnS b 0 κ) k (skip l rs)
   unfolding skip
   skip-on {b} k l [] h = holds nil (on-less n hi p0 [] (le-refl b) zero-le h)
   skip-on {b} {c} {κ} k l (r ∷ rs) h = go (isLineEnd (l .here .kind)) (skip-on k (firstOf r) rs (row-on k l r rs h))
     where
-      go : (o : Bool) → Post n (λ _. OnS b 0 κ) k (skip (firstOf r) rs) → Post n (λ _. OnS b 0 κ) k (if o then (arrive (r .first) (skip (firstOf r) rs)) else (done [] tt (record { line = l; below = r ∷ rs })))
+      go : (o : Bool) → Post (Checks n) (λ _. OnS b 0 κ) k (skip (firstOf r) rs) → Post (Checks n) (λ _. OnS b 0 κ) k (if o then (arrive (r .first) (skip (firstOf r) rs)) else (done [] tt (record { line = l; below = r ∷ rs })))
       go true p = arrive-post (r .first) p
       go false p = holds nil (on-less n hi p0 (flat (r ∷ rs)) (le-refl b) zero-le h)
 
-  skipLines-on : {b c : ℕ} {κ : Stack} → Triple n (OnS b c κ) skipLines (λ _. OnS b 0 κ)
+  skipLines-on : {b c : ℕ} {κ : Stack} → Triple (Checks n) (OnS b c κ) skipLines (λ _. OnS b 0 κ)
   unfolding skipLines
   skipLines-on = record { law = λ k s h. skip-on k (s .line) (s .below) h }
 
-  lineEnd-on : {b c : ℕ} {κ : Stack} → Triple n (OnS b c κ) lineEnd (λ _. OnS b 0 κ)
+  lineEnd-on : {b c : ℕ} {κ : Stack} → Triple (Checks n) (OnS b c κ) lineEnd (λ _. OnS b 0 κ)
   unfolding lineEnd
   lineEnd-on {b} = kindS _ λ x f. whether (isLineEnd (x .kind)) (λ _. nextRow-on) (λ _. here-failsS 10)
 
-  -- what is passed
-  past : {b c : ℕ} {κ : Stack} {t : ℕ} (k : Stack) (s : State) → (s .line .last ≡ t) × OnS b c κ k s → (b ≤ t) × (t ≤ n)
-  past {b} {t = t} k s h =
-      let e : s .line .last ≡ t = h .0 in
-      let i : b ≤ s .line .last = h .1 .low in
-      let j : s .line .last ≤ s .line .here .from = h .1 .gap in
-      let l : s .line .here .from ≤ s .line .here .to = h .1 .chain .1 .ordered in
-      let m : s .line .here .to ≤ n = chain-le n hi (s .line .here .to) (s .line .more ++ flat (s .below)) (h .1 .chain .2) in
-      (omega arith, omega arith)
-
-  passedOn : {B : Type 0} {b c : ℕ} {κ : Stack} {f : ℕ → Reader State B} {R : B → Stack → State → Type 0} → ((t : ℕ) → b ≤ t → t ≤ n → Triple n (OnS b c κ) (f t) R) → Triple n (OnS b c κ) (inLine passed >>= f) R
-  passedOn e = passedS λ t. derive (λ k s h. past k s h) (λ g. before (λ k s h. h .1) (e t (g .0) (g .1)))
+  passedOn : {B : Type 0} {b c : ℕ} {κ : Stack} {f : ℕ → Reader State B} {R : B → Stack → State → Type 0} → ((t : ℕ) → b ≤ t → t ≤ n → Triple (Checks n) (OnS b c κ) (f t) R) → Triple (Checks n) (OnS b c κ) (inLine passed >>= f) R
+  passedOn e = askPassedS λ t. derive (λ k s h. between n hi p0 (flat (s .below)) k (s .line) h) (λ g. before (λ k s h. h .1) (e t (g .0) (g .1)))
 
   -- a line record of x, up to t
   lined : (κ : Stack) {κ′ : Stack} (f t m o : ℕ) → κ .place ≡ p0 → p0 ≤ f → f ≤ t → t ≤ n → toLine m o κ ≡ some κ′ → given (spans n κ f t) (toLine m o κ) ≡ some κ′
@@ -141,58 +117,62 @@ module _ (n hi p0 : ℕ) where
   place-any e o = refl
 
   module _ (x : Lexeme) (u : p0 ≤ x .from) (v : x .from ≤ x .to) (i : x .to ≤ n) where
-    instruction-on : {c : ℕ} (e op : ℕ) → op < 99 → Triple n (OnS (x .to) c (open′ p0 e 0 0)) (instruction x op) (λ _. OnS (x .to) 0 (shut p0 e))
+    instruction-on : {c : ℕ} (e op : ℕ) → op < 99 → Triple (Checks n) (OnS (x .to) c (open′ p0 e 0 0)) (instruction x op) (λ _. OnS (x .to) 0 (shut p0 e))
     unfolding instruction checked statementFrom given
     instruction-on e op h = whether (eqb op rep || eqb op repne)
-        (λ _. behind (λ _ k s q. on-less n hi p0 (flat (s .below)) (le-refl (x .to)) zero-le q) (passedOn λ t j l. writesS {κ′ = shut p0 e} (LI (x .from) t op 0 t t) refl tt
-          (rw (span-true n hi p0 [] (open′ p0 e 0 0) (x .from) t (place-open p0 e) u (le-trans v j) l, span-true n hi p0 [] (open′ p0 e 0 0) t t (place-open p0 e) (le-trans u (le-trans v j)) (le-refl t) l, lt-ltb op 99 h) (to-line p0 0 0 e e zero-le (omega arith)))))
-        (λ _. bind (inLines (λ rest o k s. Counted n p0 o × On n hi p0 rest (x .to) 0 (open′ p0 e (o .count) 0) k s) (λ rest. operands-on n hi p0 rest e (le-trans u v))) λ o. known λ q. passedOn λ t j l. andThen lineEnd-on (λ _.
-          writesS {κ′ = shut p0 e} (LI (x .from) t op (o .count) (o .from) (o .to)) refl tt
-          (rw (span-true n hi p0 [] (open′ p0 e (o .count) 0) (x .from) t (place-any e (o .count)) u (le-trans v j) l, span-true n hi p0 [] (open′ p0 e (o .count) 0) (o .from) (o .to) (place-any e (o .count)) (q .start) (q .ordered) (q .inside),
-            lt-ltb op 99 h, le-leb (o .count) 2 (q .few)) (to-line p0 0 (o .count) e e zero-le (omega arith)))))
+        (λ _. behind (λ _ k s q. on-less n hi p0 (flat (s .below)) (le-refl (x .to)) zero-le q) (passedOn λ t j l. checksS {κ′ = shut p0 e} _ refl tt
+        (rw (span-true n hi p0 [] (open′ p0 e 0 0) (x .from) t (place-open p0 e) u (le-trans v j) l, span-true n hi p0 [] (open′ p0 e 0 0) t t (place-open p0 e) (le-trans u (le-trans v j)) (le-refl t) l, lt-ltb op 99 h) (to-line p0 0 0 e e zero-le (omega arith)))))
+        (λ _. bind (inLines (λ rs. On n hi p0 (flat rs) (x .to) _ (open′ p0 e 0 0)) (λ rs o k s. Counted n p0 o × On n hi p0 (flat rs) (x .to) 0 (open′ p0 e (o .count) 0) k s) (λ rs. operands-on n hi p0 (flat rs) e (le-trans u v))) λ o. known λ q. passedOn λ t j l. andThen lineEnd-on (λ _.
+        checksS {κ′ = shut p0 e} _ refl tt
+        (rw (
+          span-true n hi p0 [] (open′ p0 e (o .count) 0) (x .from) t (place-any e (o .count)) u (le-trans v j) l,
+          span-true n hi p0 [] (open′ p0 e (o .count) 0) (o .from) (o .to) (place-any e (o .count)) (q .start) (q .ordered) (q .inside),
+          lt-ltb op 99 h,
+          le-leb (o .count) 2 (q .few),
+        ) (to-line p0 0 (o .count) e e zero-le (omega arith)))))
 
-    constant-on : {c : ℕ} (e : ℕ) → Triple n (OnS (x .to) c (open′ p0 e 0 0)) (constant x) (λ _. OnS (x .to) 0 (shut p0 e))
+    constant-on : {c : ℕ} (e : ℕ) → Triple (Checks n) (OnS (x .to) c (open′ p0 e 0 0)) (constant x) (λ _. OnS (x .to) 0 (shut p0 e))
     unfolding constant checked statementFrom
     constant-on e = andThen (inOn (λ rest. before (λ k s h. on-soon n hi p0 rest h) (expression-on n hi p0 rest (first-context p0 e) 0)))
-        (λ _. passedOn λ t j l. andThen lineEnd-on (λ _. writesS (LC (x .from) t) refl tt (lined (open′ p0 (suc e) 0 0) (x .from) t 1 0 (place-open p0 (suc e)) u (le-trans v j) l (to-line p0 1 0 (suc e) e (omega arith) (omega arith)))))
+        (λ _. passedOn λ t j l. andThen lineEnd-on (λ _. checksS _ refl tt (lined (open′ p0 (suc e) 0 0) (x .from) t 1 0 (place-open p0 (suc e)) u (le-trans v j) l (to-line p0 1 0 (suc e) e (omega arith) (omega arith)))))
 
-    someData-on : (e : ℕ) (ds : List ℕ) → Triple n (λ k s. Data n hi p0 (flat (s .below)) (x .to) (open′ p0 e 0 0) ds k (s .line)) (someData x ds) (λ _. OnS (x .to) 0 (shut p0 e))
+    someData-on : (e : ℕ) (ds : List ℕ) → Triple (Checks n) (λ k s. Data n hi p0 (flat (s .below)) (x .to) (open′ p0 e 0 0) ds k (s .line)) (someData x ds) (λ _. OnS (x .to) 0 (shut p0 e))
     unfolding someData checked statementFrom given
-    someData-on e [] = refuses (at 23 (x .from) (x .to))
-    someData-on e (d ∷ ds) = passedS λ t. derive {F = (x .to ≤ t) × (t ≤ n) × (length (d ∷ ds) ≤ 4 * t)} (λ k s h.
-          let (a, b) = past k s (h .0, h .1 .1) in
-          let m : length (d ∷ ds) + 4 * x .to ≤ 4 * s .line .last = h .1 .0 in
-          let l : s .line .last ≡ t = h .0 in
-          (a, b, omega arith))
-        (λ g. before (λ k s h. h .1 .1) (andThen lineEnd-on (λ _. writesS {κ′ = shut p0 e} (LD (x .from) t (d ∷ ds)) refl (g .2)
-          (rw (span-true n hi p0 [] (open′ p0 e 0 0) (x .from) t (place-open p0 e) u (le-trans v (g .0)) (g .1), lt-ltb 0 (suc (length ds)) (omega arith)) (to-line p0 0 0 e e zero-le (omega arith))))))
+    someData-on e [] = refuses _
+    someData-on e (d ∷ ds) = askPassedS λ t. derive {F = (x .to ≤ t) × (t ≤ n) × (length (d ∷ ds) ≤ 4 * t)} (λ k s h.
+        let (a, b) = between n hi p0 (flat (s .below)) k (s .line) (h .0, h .1 .1) in
+        let m : length (d ∷ ds) + 4 * x .to ≤ 4 * s .line .last = h .1 .0 in
+        let l : s .line .last ≡ t = h .0 in
+        (a, b, omega arith))
+        (λ g. before (λ k s h. h .1 .1) (andThen lineEnd-on (λ _. checksS {κ′ = shut p0 e} _ refl (g .2)
+        (rw (span-true n hi p0 [] (open′ p0 e 0 0) (x .from) t (place-open p0 e) u (le-trans v (g .0)) (g .1), lt-ltb 0 (suc (length ds)) (omega arith)) (to-line p0 0 0 e e zero-le (omega arith))))))
 
-    dataOf-on : {c : ℕ} (e width : ℕ) → Triple n (OnS (x .to) c (open′ p0 e 0 0)) (dataOf x width) (λ _. OnS (x .to) 0 (shut p0 e))
+    dataOf-on : {c : ℕ} (e width : ℕ) → Triple (Checks n) (OnS (x .to) c (open′ p0 e 0 0)) (dataOf x width) (λ _. OnS (x .to) 0 (shut p0 e))
     unfolding dataOf
-    dataOf-on e width = leftS λ m. bind (inLines (λ rest ds. Data n hi p0 rest (x .to) (open′ p0 e 0 0) ds) (λ rest. literals-on n hi p0 rest (suc m) width)) λ ds. someData-on e ds
+    dataOf-on e width = askLeftS λ m. bind (inLines (λ rs. On n hi p0 (flat rs) (x .to) _ (open′ p0 e 0 0)) (λ rs ds. Data n hi p0 (flat rs) (x .to) (open′ p0 e 0 0) ds) (λ rs. literals-on n hi p0 (flat rs) (suc m) width)) λ ds. someData-on e ds
 
-  passing-on : {b c : ℕ} {κ κ′ : Stack} {m : Reader State (Unit {0})} → Triple n (OnS c 0 κ) m (λ _. OnS c 0 κ′) → Triple n (OnS b c κ) (passing m) (λ _. OnS c 0 κ′)
+  passing-on : {b c : ℕ} {κ κ′ : Stack} {m : Reader State (Unit {0})} → Triple (Checks n) (OnS c 0 κ) m (λ _. OnS c 0 κ′) → Triple (Checks n) (OnS b c κ) (passing m) (λ _. OnS c 0 κ′)
   unfolding passing
   passing-on p = andThen (inOn (λ rest. nexts n hi p0 rest)) (λ _. p)
 
   module _ (table : List ℕ) (proper : Proper table) where
     -- A statement, and a content, with e expressions below.
-    module _ {times′ : Reader State (Unit {0})} (nested : (b c e : ℕ) → Triple n (OnS b c (open′ p0 e 0 0)) times′ (λ _. OnS c 0 (shut p0 e))) where
-      line-on : {b c : ℕ} (e : ℕ) → Triple n (OnS b c (open′ p0 e 0 0)) (line table times′) (λ _. OnS c 0 (shut p0 e))
+    module _ {times′ : Reader State (Unit {0})} (nested : (b c e : ℕ) → Triple (Checks n) (OnS b c (open′ p0 e 0 0)) times′ (λ _. OnS c 0 (shut p0 e))) where
+      line-on : {b c : ℕ} (e : ℕ) → Triple (Checks n) (OnS b c (open′ p0 e 0 0)) (line table times′) (λ _. OnS c 0 (shut p0 e))
       unfolding line
       line-on e = aheadS λ x f. behind (λ _ k s h. on-less n hi p0 (flat (s .below)) (f .soon) (le-refl 0) h) (perhaps (operationIn table (x .kind))
           (perhaps (nameIn directives (x .kind))
-            (whether (isWord (x .kind)) (λ _. passing-on (inOn (λ rest. label-on n hi p0 rest e x (f .start) (f .sound .ordered) (f .inside)))) (λ _. here-failsS 20))
-            λ d _. whether (eqb d 0) (λ _. passing-on (constant-on x (f .start) (f .sound .ordered) (f .inside) e))
-              (λ _. whether (ltb d 3) (λ _. passing-on (dataOf-on x (f .start) (f .sound .ordered) (f .inside) e d)) (λ _. nested _ _ e)))
+          (whether (isWord (x .kind)) (λ _. passing-on (inOn (λ rest. label-on n hi p0 rest e x (f .start) (f .sound .ordered) (f .inside)))) (λ _. here-failsS 20))
+          λ d _. whether (eqb d 0) (λ _. passing-on (constant-on x (f .start) (f .sound .ordered) (f .inside) e))
+          (λ _. whether (ltb d 3) (λ _. passing-on (dataOf-on x (f .start) (f .sound .ordered) (f .inside) e d)) (λ _. nested _ _ e)))
           λ op h. passing-on (instruction-on x (f .start) (f .sound .ordered) (f .inside) e op (operation-small table proper (x .kind) op h)))
 
-      content-on : {b : ℕ} (e : ℕ) (x : Lexeme) → Triple n (OnS b 0 (open′ p0 (suc e) 0 0)) (content table times′ x) (λ _. OnS b 0 (shut p0 e))
+      content-on : {b : ℕ} (e : ℕ) (x : Lexeme) → Triple (Checks n) (OnS b 0 (open′ p0 (suc e) 0 0)) (content table times′ x) (λ _. OnS b 0 (shut p0 e))
       unfolding content checked statementFrom
       content-on {b} e x = kindS _ λ y f. behind (λ _ k s h. on-less n hi p0 (flat (s .below)) (le-trans (f .later) (f .sound .ordered)) (le-refl 0) h)
-          (andThen (whether (isLineEnd (y .kind)) (λ _. refuses (at 34 (x .from) (x .to))) (λ _. line-on (suc e))) (λ _. writesS LT refl tt (closes-eq n p0 e)))
+          (andThen (whether (isLineEnd (y .kind)) (λ _. refuses _) (λ _. line-on (suc e))) (λ _. checksS LT refl tt (closes-eq n p0 e)))
 
-    times-on : (m b c e : ℕ) → Triple n (OnS b c (open′ p0 e 0 0)) (times table m) (λ _. OnS c 0 (shut p0 e))
+    times-on : (m b c e : ℕ) → Triple (Checks n) (OnS b c (open′ p0 e 0 0)) (times table m) (λ _. OnS c 0 (shut p0 e))
     unfolding times
     times-on zero b c e = here-failsS 5
     times-on (suc m) b c e = aheadS λ x f. behind (λ _ k s h. on-less n hi p0 (flat (s .below)) (f .soon) (le-refl 0) h) (passing-on (andThen
@@ -213,7 +193,7 @@ pub record Ready (lo : ℕ) (κ : Stack) : Type 0 where
 
 module _ (n hi : ℕ) where
   pub data Stated (lo : ℕ) (κ : Stack) : Answer State Bool → Type 0 where
-    began : {q lo′ : ℕ} {v : List Record} {s : State} {κ₁ κ′ : Stack} → lo ≤ q → q < hi → lo ≤ lo′ → checked n κ (ST q) ≡ some κ₁ → Run n κ₁ v κ′ → Ready lo′ κ′ → OnS n hi 0 lo′ 0 κ′ κ′ s → Stated lo κ (done (ST q ∷ v) true s)
+    began : {q lo′ : ℕ} {v : List Record} {s : State} {κ₁ κ′ : Stack} → lo ≤ q → q < hi → q < lo′ → checked n κ (ST q) ≡ some κ₁ → Run (Checks n) κ₁ v κ′ → Ready lo′ κ′ → OnS n hi 0 lo′ 0 κ′ κ′ s → Stated lo κ (done (ST q ∷ v) true s)
     ended : {s : State} → Stated lo κ (done [] false s)
     failed : {r : Refusal} → Stated lo κ (refused r)
 
@@ -239,11 +219,11 @@ module _ (n hi : ℕ) where
       go false p = skips h
 
   -- the records of a statement behind its first
-  started : (lo q t : ℕ) (κ κ₁ : Stack) → lo ≤ q → q < hi → suc q ≤ t → lo ≤ t → checked n κ (ST q) ≡ some κ₁ → {p : Answer State (Unit {0})} → Post n (λ _. OnS n hi q t 0 (shut q 0)) κ₁ p
+  started : (lo q t : ℕ) (κ κ₁ : Stack) → lo ≤ q → q < hi → suc q ≤ t → checked n κ (ST q) ≡ some κ₁ → {p : Answer State (Unit {0})} → Post (Checks n) (λ _. OnS n hi q t 0 (shut q 0)) κ₁ p
       → Stated lo κ (thence (after (ST q ∷ []) p) (λ _. return true))
   unfolding thence after return
-  started lo q t κ κ₁ i j l m e (holds {w = w} {s = s} {k′ = k′} r o) = rw (append-nil w) (began i j m e r (record { done′ = ready-shut q k′ (o .same); from′ = rw (floor-shut q k′ (o .same)) l }) (record { same = refl; low = o .low; gap = o .gap; soon = zero-le; chain = chain-low n hi q 0 (s .line .here ∷ (s .line .more ++ flat (s .below))) zero-le (o .chain) }))
-  started lo q t κ κ₁ i j l m e fails = failed
+  started lo q t κ κ₁ i j l e (holds {w = w} {s = s} {g′ = k′} r o) = rw (append-nil w) (began i j l e r (record { done′ = ready-shut q k′ (o .same); from′ = rw (floor-shut q k′ (o .same)) l }) (record { same = refl; low = o .low; gap = o .gap; soon = zero-le; chain = chain-low n hi q 0 (s .line .here ∷ (s .line .more ++ flat (s .below))) zero-le (o .chain) }))
+  started lo q t κ κ₁ i j l e fails = failed
 
   starts : (κ : Stack) (q : ℕ) → complete κ ≡ true → κ .floor ≤ q → q ≤ n → checked n κ (ST q) ≡ some (open′ q 0 0 0)
   unfolding checked allow open′
@@ -260,13 +240,13 @@ module _ (n hi : ℕ) where
         go : (o : Bool) → isLineEnd (s .line .here .kind) ≡ o → Stated lo κ (if_then_else_ {A = Reader State Bool} o (return false) (write (ST (s .line .here .from)) >> line table (times table 16) >> return true) s)
         go true e = ended
         go false e =
-          let x : Lexeme = s .line .here in
-          let f : Facts n hi 0 lo 0 x = facts n hi 0 (flat (s .below)) lo 0 κ κ (s .line) h in
-          let (i, j) = f .sound .strict e in
-          started lo (x .from) (x .to) κ (open′ (x .from) 0 0 0) (f .later) (le-trans i j) i (le-trans (f .later) (f .sound .ordered))
+            let x : Lexeme = s .line .here in
+            let f : Facts n hi 0 lo 0 x = facts n hi 0 (flat (s .below)) lo 0 κ κ (s .line) h in
+            let (i, j) = f .sound .strict e in
+            started lo (x .from) (x .to) κ (open′ (x .from) 0 0 0) (f .later) (le-trans i j) i
             (starts κ (x .from) (y .done′) (le-trans (y .from′) (f .later)) (le-trans (f .sound .ordered) (f .inside)))
             (line-on n hi (x .from) table proper (times-on n hi (x .from) table proper 16) {b = 0} {c = x .to} 0 .law (open′ (x .from) 0 0 0) s
-              (record { same = refl; low = zero-le; gap = h .gap; soon = le-refl (x .to); chain = (le-refl (x .from), h .chain .1, h .chain .2) }))
+            (record { same = refl; low = zero-le; gap = h .gap; soon = le-refl (x .to); chain = (le-refl (x .from), h .chain .1, h .chain .2) }))
 
     skips-stated : (lo : ℕ) (κ : Stack) → Ready lo κ → {p : Answer State (Unit {0})} → Skips lo κ p → Stated lo κ (thence p (λ _. begun table))
     unfolding thence

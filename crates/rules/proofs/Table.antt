@@ -1,6 +1,6 @@
 -- What the laws ask of a table of operations, and that the table of the names has it: one test, computed over its rows.
 use mathlib.Core.Path.{_≡_, refl, ap, _∙_}
-use mathlib.Core.Bool.{Bool, true, false, _&&_, false≢true}
+use mathlib.Core.Bool.{Bool, true, false, _&&_, false≢true, true≢false}
 use mathlib.Core.List.{List, [], _∷_, map}
 use mathlib.Core.Option.{Option, none, some}
 use Prim.Native.Nat.{ℕ, zero, suc, _≤_, _<_}
@@ -35,7 +35,7 @@ same-length (c ∷ s) (d ∷ t) h = go (eqb c d) h (λ e. same-length s t e)
 
 proper-from : (n : ℕ) (w table : List ℕ) (r : ℕ) → properRows n table ≡ true → operationFrom n w table ≡ some r → (r < 99) × (2 ≤ length w)
 unfolding operationFrom properRows
-proper-from zero w table r p h = let z : _≡_ {A = ℕ} 0 1 = cc in absurd (omega arith)
+proper-from zero w table r p h = absurd (true≢false cc)
 proper-from (suc n) w table r p h =
     let (a, q) = and-split (ltb (getD table 7 0) 99) _ p in
     let (b, others) = and-split (leb 2 (length (spelling table))) _ q in
@@ -45,8 +45,8 @@ proper-from (suc n) w table r p h =
         → _≡_ {A = Option ℕ} (if o then (some (getD table 7 0)) else (operationFrom n w (drop 8 table))) (some r)
         → (operationFrom n w (drop 8 table) ≡ some r → (r < 99) × (2 ≤ length w)) → (r < 99) × (2 ≤ length w)
     go a b true e i again =
-      let z : getD table 7 0 ≡ r = cc in
-      (omega (arith, ltb-true (getD table 7 0) 99 a), omega (arith, leb-true 2 (length (spelling table)) b, same-length w (spelling table) e))
+        let z : getD table 7 0 ≡ r = cc in
+        (omega (arith, ltb-true (getD table 7 0) 99 a), omega (arith, leb-true 2 (length (spelling table)) b, same-length w (spelling table) e))
     go a b false e i again = again i
 
 proper-rows : properRows 117 operations ≡ true
@@ -57,4 +57,5 @@ pub proper : Proper operations
 unfolding operationNamed
 proper = record {
   small = λ w r h. proper-from 117 (map lower w) operations r proper-rows h .0;
-  long = λ w r h. omega (arith, proper-from 117 (map lower w) operations r proper-rows h .1, length-map w lower) }
+  long = λ w r h. omega (arith, proper-from 117 (map lower w) operations r proper-rows h .1, length-map w lower);
+}
