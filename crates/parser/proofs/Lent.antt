@@ -1,0 +1,88 @@
+-- The first byte above 127, found byte by byte, and what it says of a source.
+-- Assumes nothing.
+use Prim.Native.Nat.{ℕ, zero, suc, _+_, _≤_, _<_}
+use mathlib.Core.Path.{_≡_, refl, sym, ap, _∙_}
+use mathlib.Core.Bool.{Bool, true, false}
+use mathlib.Core.List.{List, [], _∷_}
+use mathlib.Core.Option.{Option, none, some}
+use native.Mathlib.Omega.{arith}
+use native.Mathlib.Numerals.{add-one}
+use lib.Dec.{ltb}
+use lib.ListN.{length, drop, getD, drop-of-length-le}
+use lib.Seq.{drop-cons}
+use borrow.Author.Tests.{lt-ltb, le-ltb}
+use Rattle.lexer.specs.Text.{if_then_else_, maybe}
+use Rattle.rules.specs.Reader.{at, nowhere}
+use Rattle.rules.specs.Calls.{Result, gives, refuses, unless, mostBytes, tooLong, foreign, ascii, lent, lentAt}
+use Rattle.parser.specs.declared.reader.Lent.the-variants.{Accepted, Refused}
+use Rattle.parser.specs.Views.{numbersOf}
+use Rattle.parser.specs.Lent.{foreignPlace, lentAnswer, lentOf, lentAtOf}
+
+module _ (s : List ℕ) (i : ℕ) where
+  pub foreign-here : i < length s → 127 < getD s i 0 → foreign i (drop i s) ≡ some i
+  unfolding foreign
+  foreign-here h k = rw (drop-cons s i 0 h, lt-ltb 127 (getD s i 0) k)
+
+  pub foreign-on : i < length s → getD s i 0 ≤ 127 → foreign (i + 1) (drop (i + 1) s) ≡ foreign i (drop i s)
+  unfolding foreign
+  foreign-on h k = rw (drop-cons s i 0 h, le-ltb 127 (getD s i 0) k, add-one)
+
+  pub foreign-end : length s ≤ i → foreign i (drop i s) ≡ none
+  unfolding foreign
+  foreign-end h = rw (drop-of-length-le s h)
+
+foreign-inside : (p : ℕ) (s : List ℕ) (q : ℕ) → foreign p s ≡ some q → q < p + length s
+unfolding foreign
+foreign-inside p [] q e = let z : _≡_ {A = ℕ} 0 1 = cc in absurd (omega arith)
+foreign-inside p (c ∷ cs) q e = go (ltb 127 c) e (foreign-inside (suc p) cs q)
+  where
+    go : (b : Bool) → (if b then some p else foreign (suc p) cs) ≡ some q → (foreign (suc p) cs ≡ some q → q < suc p + length cs) → q < p + suc (length cs)
+    go true e h = let k : p ≡ q = cc in omega arith
+    go false e h = omega (arith, h e)
+
+module _ (s : List ℕ) where
+  pub place-found : {i : ℕ} → foreign 0 s ≡ some i → i ≡ foreignPlace s
+  unfolding foreignPlace
+  place-found e = rw e
+
+  pub place-none : {i : ℕ} → foreign 0 s ≡ none → i ≡ length s → i ≡ foreignPlace s
+  unfolding foreignPlace
+  place-none e k = rw e k
+
+  some-foreign : {i : ℕ} → i ≡ foreignPlace s → i < length s → foreign 0 s ≡ some i
+  unfolding foreignPlace
+  some-foreign {i} e h = go (foreign 0 s) refl e
+    where
+      go : (o : Option ℕ) → foreign 0 s ≡ o → i ≡ maybe o (length s) (λ p. p) → foreign 0 s ≡ some i
+      go none f k = absurd (omega arith)
+      go (some p) f k = f ∙ ap some (sym k)
+
+  none-foreign : {i : ℕ} → i ≡ foreignPlace s → length s ≤ i → foreign 0 s ≡ none
+  unfolding foreignPlace
+  none-foreign {i} e h = go (foreign 0 s) refl e
+    where
+      go : (o : Option ℕ) → foreign 0 s ≡ o → i ≡ maybe o (length s) (λ p. p) → foreign 0 s ≡ none
+      go none f k = f
+      go (some p) f k = absurd (omega (arith, foreign-inside 0 s p f))
+
+  pub too-long : 65536 < length s → Refused (numbersOf (at 1 0 0)) ≡ lentOf s
+  unfolding lentOf lent unless tooLong mostBytes
+  too-long h = rw (lt-ltb 65536 (length s) h)
+
+  module _ (h : length s ≤ 65536) where
+    pub is-foreign : {i : ℕ} → i ≡ foreignPlace s → i < length s → Refused (numbersOf (at 2 i (i + 1))) ≡ lentOf s
+    unfolding lentOf lent unless tooLong mostBytes ascii
+    is-foreign e k = rw (le-ltb 65536 (length s) h, some-foreign e k, add-one)
+
+    pub all-ascii : {i : ℕ} → i ≡ foreignPlace s → length s ≤ i → Accepted ≡ lentOf s
+    unfolding lentOf lent unless tooLong mostBytes ascii
+    all-ascii e k = rw (le-ltb 65536 (length s) h, none-foreign e k)
+
+  module _ (p : ℕ) where
+    pub too-far : length s < p → Refused (numbersOf (at 42 0 0)) ≡ lentAtOf s p
+    unfolding lentAtOf lentAt unless
+    too-far h = rw (lt-ltb (length s) p h)
+
+    pub not-far : p ≤ length s → lentOf s ≡ lentAtOf s p
+    unfolding lentAtOf lentOf lentAt unless
+    not-far h = rw (le-ltb (length s) p h)
