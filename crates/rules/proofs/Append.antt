@@ -1,21 +1,20 @@
 -- APPEND. Rows read alone, beside the same rows with further rows `b ∷ bs` behind them. Where the first reading lacks a content (34), the second has it from the further rows.
 use mathlib.Core.Path.{_≡_, refl, sym, ap, _∙_}
 use mathlib.Core.Bool.{Bool, true, false, _||_, true≢false, false≢true}
-use mathlib.Core.List.{List, [], _∷_, _++_, map, append-assoc, append-nil}
+use mathlib.Core.List.{List, [], _∷_, _++_, append-assoc, append-nil}
 use mathlib.Core.Option.{Option, none, some}
-use Prim.Native.Nat.{ℕ, zero, suc, _≤_, _<_}
+use Prim.Native.Nat.{ℕ, zero, suc, _≤_}
 use native.Mathlib.Omega.{arith}
 use lib.Dec.{ltb, eqb}
 use Rattle.lexer.specs.Text.{if_then_else_, maybe}
 use Rattle.rules.specs.Lexemes.{Kind, word, number, quoted, mark, newline, blank, comment, invalid, end, bad, Lexeme, nameIn, operationIn}
 use Rattle.names.specs.Names.{directives}
-use Rattle.rules.specs.Records.{Record, ST, LL, LI, LD, LC, LT}
-use Rattle.rules.specs.Reader.{Refusal, at, nowhere, encoding, Answer, done, refused, Reader, Line, after, thence, _>>=_, _>>_, return, write, refuse, refusedAs, arrive, next, ahead, kind, passed, left, refuseHere, isLineEnd}
-use Rattle.rules.specs.Operands.{isWord, operands}
-use Rattle.rules.specs.Expressions.{expression}
+use Rattle.rules.specs.Records.{Record, ST, LT}
+use Rattle.rules.specs.Reader.{Refusal, at, Answer, done, refused, Reader, Line, after, thence, _>>=_, _>>_, return, write, refuse, refusedAs, arrive, ahead, kind, refuseHere, isLineEnd}
+use Rattle.rules.specs.Operands.{isWord}
 use Rattle.rules.proofs.Move.{Mild, Stays, Gentle, bad-mild, next-mild}
-use Rattle.rules.proofs.Mild.{ahead-mild, kind-mild, passed-mild, left-mild, here-mild, expression-mild, operands-mild, label-mild, literals-mild}
-use Rattle.rules.specs.Statements.{Row, State, over, inLine, firstOf, enter, stepRow, nextRow, lineEnd, skip, skipLines, passing, label, rep, repne, instruction, constant, literals, someData, dataOf, line, content, times, begun, statement, statements}
+use Rattle.rules.proofs.MoveState.{ahead-mild, passed-mild, left-mild, here-mild, expression-mild, operands-mild, label-mild, literals-mild}
+use Rattle.rules.specs.Statements.{Row, State, over, inLine, firstOf, enter, stepRow, nextRow, lineEnd, skip, skipLines, passing, rep, repne, instruction, constant, someData, dataOf, line, content, times, begun, statement}
 
 pub after-nil : {S A : Type 0} (p : Answer S A) → after [] p ≡ p
 unfolding after
@@ -83,6 +82,16 @@ closing-plain : (p : Answer State (Unit {0})) → closing [] [] (tt {0}) p ≡ p
 unfolding closing thence after
 closing-plain (done w a s) = rw (append-nil w)
 closing-plain (refused r) = refl
+
+-- What holds of two answers and of the token's refusal holds where the token is arrived at.
+arrived-both : {A : Type 0} (T : Answer State A → Answer State A → Type 0) (x : Lexeme) {p q : Answer State A}
+    → ((n : ℕ) → refusedAs (x .kind) ≡ some n → T (refused (at n (x .from) (x .to))) (refused (at n (x .from) (x .to)))) → T p q → T (arrive x p) (arrive x q)
+unfolding arrive
+arrived-both T x {p} {q} m h = go (refusedAs (x .kind)) refl
+  where
+    go : (o : Option ℕ) → refusedAs (x .kind) ≡ o → T (maybe o p (λ n. refused (at n (x .from) (x .to)))) (maybe o q (λ n. refused (at n (x .from) (x .to))))
+    go none e = h
+    go (some n) e = m n e
 
 -- What a second reading comes to at further rows, past empty lines.
 unfoldable pub coming : Row → List Row → Answer State (Unit {0})
@@ -272,18 +281,10 @@ module _ (table : List ℕ) where
     opened : {A : Type 0} {R : State → State → Type 0} {m : Reader State A} → Keeps b bs true R (In es b bs) m → Keeps b bs true R (Open es b bs) m
     opened p = record { law = λ h. weaken (p .law h) }
 
-    arrive-agree : {A : Type 0} {R : State → State → Type 0} (x : Lexeme) {p q : Answer State A} → Agree b bs true R p q → Agree b bs true R (arrive x p) (arrive x q)
-    unfolding arrive
-    arrive-agree {A} {R} x {p} {q} h = go′ (refusedAs (x .kind)) refl
-      where
-        go′ : (o : Option ℕ) → refusedAs (x .kind) ≡ o → Agree b bs true R (maybe o p (λ n. refused (at n (x .from) (x .to)))) (maybe o q (λ n. refused (at n (x .from) (x .to))))
-        go′ none e = h
-        go′ (some n) e = neither (bad-mild (x .kind) n e)
-
     stepRow-open : (l : Line) (rs : List Row) → isLineEnd (l .here .kind) ≡ true → Agree b bs true (Open es b bs) (stepRow (rs ++ es) (record { line = l; below = rs ++ es })) (stepRow (rs ++ (b ∷ bs)) (record { line = l; below = rs ++ (b ∷ bs) }))
     unfolding stepRow enter
     stepRow-open l [] h = step-bare es tail b bs l h
-    stepRow-open l (r ∷ rs) h = arrive-agree (r .first) (both (within (inside (firstOf r) rs)))
+    stepRow-open l (r ∷ rs) h = arrived-both (Agree b bs true (Open es b bs)) (r .first) (λ n e. neither (bad-mild (r .first .kind) n e)) (both (within (inside (firstOf r) rs)))
 
     lineEnd-in : (l : Line) (rs : List Row) → Agree b bs true (Open es b bs) (lineEnd (record { line = l; below = rs ++ es })) (lineEnd (record { line = l; below = rs ++ (b ∷ bs) }))
     unfolding lineEnd nextRow _>>=_ thence inLine over kind refuseHere
@@ -329,14 +330,6 @@ module _ (table : List ℕ) where
         (whether (isWord (x .kind)) (passing-open (opened (inLines (label-mild x)))) (opened (inLines (here-mild 20 refl))))
         λ n. whether (eqb n 0) (passing-open (constant-open x)) (whether (ltb n 3) (passing-open (dataOf-open x n)) p)) λ op. passing-open (instruction-open x op)
 
-    arrive-skipped : (x : Lexeme) {p q : Answer State (Unit {0})} → (Skipped es b bs) p q → (Skipped es b bs) (arrive x p) (arrive x q)
-    unfolding arrive
-    arrive-skipped x {p} {q} h = go′ (refusedAs (x .kind)) refl
-      where
-        go′ : (o : Option ℕ) → refusedAs (x .kind) ≡ o → (Skipped es b bs) (maybe o p (λ n. refused (at n (x .from) (x .to)))) (maybe o q (λ n. refused (at n (x .from) (x .to))))
-        go′ none e = h
-        go′ (some n) e = stopped (bad-mild (x .kind) n e)
-
     skip-skipped : (l : Line) (rs : List Row) → (Skipped es b bs) (skip l (rs ++ es)) (skip l (rs ++ (b ∷ bs)))
     unfolding skip
     skip-skipped l [] = skip-last es tail b bs l (isLineEnd (l .here .kind)) refl
@@ -345,7 +338,7 @@ module _ (table : List ℕ) where
         go′ : (o : Bool) → isLineEnd (l .here .kind) ≡ o → (Skipped es b bs) (skip (firstOf r) (rs ++ es)) (skip (firstOf r) (rs ++ (b ∷ bs)))
             → (Skipped es b bs) (if o then (arrive (r .first) (skip (firstOf r) (rs ++ es))) else (done [] tt (record { line = l; below = r ∷ (rs ++ es) })))
             (if o then (arrive (r .first) (skip (firstOf r) (rs ++ (b ∷ bs)))) else (done [] tt (record { line = l; below = r ∷ (rs ++ (b ∷ bs)) })))
-        go′ true h i = arrive-skipped (r .first) i
+        go′ true h i = arrived-both (Skipped es b bs) (r .first) (λ n e. stopped (bad-mild (r .first .kind) n e)) i
         go′ false h i = still (inside l (r ∷ rs)) h
 
     pub skipLines-skipped : {s t : State} → (In es b bs) s t → (Skipped es b bs) (skipLines s) (skipLines t)
@@ -438,9 +431,6 @@ module _ (table : List ℕ) where
     follows-after v (same m) = same m
     follows-after v (late w {q} p c) = rw (after-after v w q) (late (v ++ w) p c)
 
-    zero-one : _≡_ {A = ℕ} 0 1 → ⊥
-    zero-one h = omega arith
-
     halt : (n : ℕ) {q : Answer State (Unit {0})} → refusedAs (b .first .kind) ≡ some n → Continues (refused (at n (b .first .from) (b .first .to))) q → Begins (b ∷ bs) q
     halt n h Continues.fail = broken h
 
@@ -498,7 +488,7 @@ module _ (table : List ℕ) where
     lockstep (Reads.go z g) o r = go-case (statement-next o) z g (λ t q o′ r′. lockstep g o′ r′) (continues r)
 
     none-some : (n : ℕ) → _≡_ {A = Option ℕ} none (some n) → ⊥
-    none-some n h = let y : _≡_ {A = ℕ} 0 1 = cc in zero-one y
+    none-some n h = true≢false cc
 
     pub follows : {r : Row} (rs : List Row) {p q : Answer State (Unit {0})} → Begins (r ∷ (rs ++ es)) p → Begins (r ∷ (rs ++ (b ∷ bs))) q → Follows p q
     unfolding enter

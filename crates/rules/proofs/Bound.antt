@@ -5,7 +5,6 @@ use mathlib.Core.Bool.{Bool, true, false, _||_, true≢false, false≢true}
 use mathlib.Core.List.{List, [], _∷_, _++_}
 use Prim.Native.Nat.{ℕ, zero, suc, pred, _+_, _*_, _≤_, _<_, zero-le}
 use native.Mathlib.Omega.{arith}
-use native.Mathlib.Nat.{le-refl}
 use lib.ListN.{length, length-append}
 use Rattle.lexer.specs.Text.{if_then_else_, isDigit, isLetter, isWordPart, run}
 use Rattle.lexer.specs.Tokens.{tokenAt, sizeOf}
@@ -25,10 +24,10 @@ use Rattle.rules.proofs.Append.{Reads, Begins, fine, broken}
 use Rattle.rules.proofs.Shape.{Small, Chain, chain-le, chain-low}
 use Rattle.rules.proofs.ShapeState.{flat}
 use Rattle.rules.proofs.LexSound.{chain-plain, chain-skip, flat-rows}
-use Rattle.rules.proofs.Cut.{rowsFrom, Gives, accepts-run}
+use Rattle.rules.proofs.Cut.{rowsFrom, accepts-run}
 use Rattle.rules.proofs.Records.{listing-append}
-use Rattle.rules.proofs.Hoare.{Post, holds, fails}
-use Rattle.rules.proofs.Cost.{weight, Writes, run-weight, Spaced, On}
+use Rattle.rules.proofs.Hoare.{Post, holds}
+use Rattle.rules.proofs.Cost.{weight, Writes, run-weight, Spaced}
 use Rattle.rules.proofs.CostState.{OnS, statement-on}
 
 abbrev Bounded : ℕ → ℕ → Answer State (Unit {0}) → Type 0

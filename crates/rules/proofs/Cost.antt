@@ -1,25 +1,25 @@
 -- The listing is at most 18 times its source: each token pays for the records that it brings. `On m`: d bytes are written so far, and m more may be, for the bytes before the token ahead.
-use mathlib.Core.Path.{_≡_, refl, sym, ap, ap₂, subst, _∙_}
-use mathlib.Core.Bool.{Bool, true, false, not, _&&_, _||_, true≢false, false≢true}
-use mathlib.Core.List.{List, [], _∷_, _++_, map, append-assoc, append-nil}
+use mathlib.Core.Path.{_≡_, refl, sym, ap, subst, _∙_}
+use mathlib.Core.Bool.{Bool, true, false, _||_, true≢false, false≢true}
+use mathlib.Core.List.{List, [], _∷_, _++_}
 use mathlib.Core.Option.{Option, none, some}
 use Prim.Native.Nat.{ℕ, zero, suc, _+_, _*_, _-_, _≤_, _<_, zero-le}
 use Prim.Native.Char.{Char}
 use native.Mathlib.Omega.{arith}
-use native.Mathlib.Nat.{le-refl, le-trans}
-use lib.Dec.{eqb, leb, ltb}
-use lib.ListN.{length, take, length-append, length-take}
-use Rattle.lexer.specs.Text.{if_then_else_, maybe, is, bytes}
+use native.Mathlib.Nat.{le-refl}
+use lib.Dec.{eqb, ltb}
+use lib.ListN.{length, take, length-append}
+use Rattle.lexer.specs.Text.{if_then_else_, is, bytes}
 use Rattle.rules.specs.Lexemes.{Kind, word, number, quoted, mark, newline, blank, comment, invalid, end, bad, Lexeme, textOf, nameIn}
 use Rattle.names.specs.Names.{registers, segments, sizes}
-use Rattle.rules.specs.Records.{Record, ST, VC, VL, VI, VS, PF, IN, OR, OS, OI, OF, OD, OX, LL, LI, LD, LC, LT, field, fields, encode, listing}
-use Rattle.rules.specs.Reader.{Refusal, at, nowhere, encoding, Answer, done, refused, Reader, Line, after, thence, _>>=_, _>>_, return, write, refuse, orBack, attempt, refusedAs, arrive, step, next, ahead, kind, passed, left, refuseHere, isMark, isLineEnd, expect}
+use Rattle.rules.specs.Records.{Record, field, fields, encode, listing}
+use Rattle.rules.specs.Reader.{at, Reader, Line, thence, _>>=_, _>>_, return, write, step, next, ahead, kind, passed, isMark, isLineEnd, expect}
 use Rattle.rules.specs.Expressions.{operatorOf, leftLevel, rightLevel, prefixLevel, character, atomOf, atom, primary, infixes, expr, expression}
-use Rattle.rules.specs.Operands.{immediateOrFar, alone, isIndex, isBase, paired, plusIndex, second, registersAhead, displacement, close, override, isWord, isNumber, memory, operandSized, operand, Operands, operands}
+use Rattle.rules.specs.Operands.{immediateOrFar, alone, isIndex, isBase, paired, plusIndex, second, registersAhead, displacement, close, override, isWord, isNumber, memory, operandSized, operand, operands}
 use Rattle.rules.specs.Statements.{label, literalOf, literals}
-use Rattle.rules.proofs.Progress.{name-inside, word-inside}
-use Rattle.rules.proofs.Hoare.{Run, nil, cons, Post, holds, fails, Triple, now, after-post, bind, andThen, whether, perhaps, returns, refuses, writes, before, behind, arrive-post, attempts, askAhead, askKind, askPassed, askLeft, here-fails}
-use Rattle.rules.proofs.Shape.{Holds, Sound, Chain, chain-low}
+use Rattle.rules.proofs.TokenKinds.{mark-inside, operator-inside, name-inside}
+use Rattle.rules.proofs.Hoare.{Run, nil, cons, Post, holds, Triple, now, after-post, bind, andThen, whether, perhaps, returns, refuses, writes, before, behind, arrive-post, attempts, askAhead, askKind, askPassed, askLeft, here-fails}
+use Rattle.rules.proofs.Shape.{Holds, Sound, Chain, chain-low, width-four}
 
 abbrev pub weight : List Record → ℕ
 weight w = length (listing w)
@@ -47,32 +47,6 @@ newline-spaced : (p : ℕ) (xs : List Lexeme) → Spaced xs → Spaced (record {
 unfolding isWord textOf
 newline-spaced p [] h = tt
 newline-spaced p (x ∷ xs) h = (λ w. absurd (false≢true w), h)
-
-mark-inside : (a : Char) (k : Kind) → isMark a k ≡ true → isLineEnd k ≡ false
-unfolding isMark isLineEnd
-mark-inside a (mark c) h = refl
-mark-inside a (word w) h = refl
-mark-inside a (number v) h = refl
-mark-inside a (quoted b w) h = refl
-mark-inside a newline h = sym h
-mark-inside a blank h = refl
-mark-inside a comment h = refl
-mark-inside a invalid h = refl
-mark-inside a end h = sym h
-mark-inside a (bad b) h = refl
-
-operator-inside : (k : Kind) (op : ℕ) → operatorOf k ≡ some op → isLineEnd k ≡ false
-unfolding operatorOf isMark isLineEnd
-operator-inside (mark c) op h = refl
-operator-inside (word w) op h = refl
-operator-inside (number v) op h = refl
-operator-inside (quoted b w) op h = refl
-operator-inside newline op h = cc
-operator-inside blank op h = refl
-operator-inside comment op h = refl
-operator-inside invalid op h = refl
-operator-inside end op h = cc
-operator-inside (bad b) op h = refl
 
 module _ (n hi D : ℕ) (rest : List Lexeme) where
   pub record On (m d : ℕ) (s : Line) : Type 0 where
@@ -110,10 +84,6 @@ module _ (n hi D : ℕ) (rest : List Lexeme) where
     pub aheadHere : {B : Type 0} (f : Lexeme → Reader Line B) {R : B → ℕ → Line → Type 0} (x : Lexeme) → Triple Writes (Here x m) (f x) R → Triple Writes (Here x m) (ahead >>= f) R
     unfolding ahead _>>=_ thence
     aheadHere f {R} x e = record { law = λ d s h. after-post nil (subst (λ (y : Lexeme). Post Writes R d (f y s)) (sym (h .0)) (e .law d s h)) }
-
-    pub kindHere : {B : Type 0} (f : Kind → Reader Line B) {R : B → ℕ → Line → Type 0} (x : Lexeme) → Triple Writes (Here x m) (f (x .kind)) R → Triple Writes (Here x m) (kind >>= f) R
-    unfolding kind _>>=_ thence
-    kindHere f {R} x e = record { law = λ d s h. after-post nil (subst (λ (y : Lexeme). Post Writes R d (f (y .kind) s)) (sym (h .0)) (e .law d s h)) }
 
     pub pays : (r : Record) (k : ℕ) → length (encode r) ≤ k → Triple Writes (On (m + k)) (write r) (λ _. On m)
     pays r k i = writes r λ d s h. (d + length (encode r), record { sum = refl }, record { paid = omega (arith, h .paid); chain = h .chain; spaced = h .spaced })
@@ -315,10 +285,6 @@ module _ (n hi D : ℕ) (rest : List Lexeme) where
   unfolding label encode fields field bytes
   label-on m x = kindThen _ λ y g. andThen (whether (isMark ":" (y .kind)) (λ e. behind (λ _ d s h. on-less (omega arith) h) (past y g (mark-inside ":" (y .kind) e))) (λ _. returns tt (λ d s h. h .1)))
       (λ _. pays {m = m} _ 10 (le-refl 10))
-
-  width-four : (width v : ℕ) → length (take width (field v)) ≤ 4
-  unfolding field
-  width-four width v = omega (arith, length-take width (field v))
 
   module _ {others : Reader Line (List ℕ)} (more′ : (m : ℕ) → Triple Writes (On m) others (λ ds. On (m + length ds))) where
     chunk : (m k : ℕ) (x : Lexeme) (g : List ℕ) → k + x .from ≤ x .to → length g ≤ 18 * k → Triple Writes (Here x m) (next >> others >>= λ ds. return (g ++ ds)) (λ ds. On (m + length ds))

@@ -1,27 +1,26 @@
 -- The bound for statements and sources.
-use mathlib.Core.Path.{_≡_, refl, sym, ap, ap₂, subst, _∙_}
-use mathlib.Core.Bool.{Bool, true, false, not, _&&_, _||_, true≢false, false≢true}
-use mathlib.Core.List.{List, [], _∷_, _++_, map, append-assoc, append-nil}
+use mathlib.Core.Path.{_≡_, refl, sym, subst}
+use mathlib.Core.Bool.{Bool, true, false, _&&_, _||_, true≢false}
+use mathlib.Core.List.{List, [], _∷_, _++_, map}
 use mathlib.Core.Option.{Option, none, some}
-use Prim.Native.Nat.{ℕ, zero, suc, _+_, _*_, _-_, _≤_, _<_, zero-le}
+use Prim.Native.Nat.{ℕ, zero, suc, _+_, _*_, _-_, _≤_, zero-le}
 use Prim.Native.String.{String}
 use native.Mathlib.Omega.{arith}
-use native.Mathlib.Nat.{le-refl, le-trans}
+use native.Mathlib.Nat.{le-refl}
 use lib.Dec.{eqb, leb, ltb}
-use lib.ListN.{length, length-append, length-map}
+use lib.ListN.{length, length-map}
 use borrow.Author.Tests.{leb-true}
 use Rattle.lexer.specs.Text.{if_then_else_, maybe, bytes, lower, same, openText}
 use Rattle.lexer.proofs.Branches.{and-split}
-use Rattle.rules.specs.Lexemes.{Kind, word, number, quoted, mark, newline, blank, comment, invalid, end, bad, Lexeme, textOf, nameIn, operationIn}
+use Rattle.rules.specs.Lexemes.{Kind, Lexeme, textOf, nameIn, operationIn}
 use Rattle.names.specs.Names.{directives, named, operationNamed, placeFrom}
-use Rattle.rules.specs.Records.{Record, ST, LL, LI, LD, LC, LT, field, fields, encode, listing}
-use Rattle.rules.specs.Reader.{Refusal, at, Answer, done, refused, Reader, Line, after, thence, _>>=_, _>>_, return, write, refuse, refusedAs, arrive, next, ahead, kind, passed, left, refuseHere, isLineEnd}
-use Rattle.rules.specs.Expressions.{expression}
-use Rattle.rules.specs.Operands.{isWord, isNumber, Operands, operands}
-use Rattle.rules.specs.Statements.{Row, State, over, inLine, firstOf, enter, stepRow, nextRow, lineEnd, skip, skipLines, passing, label, rep, repne, instruction, constant, literals, someData, dataOf, line, content, times, begun, statement}
-use Rattle.rules.proofs.Progress.{name-inside, word-inside}
+use Rattle.rules.specs.Records.{Record, LT, field, fields, encode}
+use Rattle.rules.specs.Reader.{at, done, Reader, Line, thence, _>>=_, _>>_, write, arrive, ahead, kind, passed, isLineEnd}
+use Rattle.rules.specs.Operands.{isWord}
+use Rattle.rules.specs.Statements.{Row, State, over, inLine, firstOf, enter, stepRow, nextRow, lineEnd, skip, skipLines, passing, rep, repne, instruction, constant, someData, dataOf, line, content, times, begun, statement}
+use Rattle.rules.proofs.TokenKinds.{word-inside, asked}
 use Rattle.rules.proofs.Table.{Proper, same-length}
-use Rattle.rules.proofs.Shape.{asked, Holds, Sound, Chain, chain-low}
+use Rattle.rules.proofs.Shape.{Holds, Sound, chain-low}
 use Rattle.rules.proofs.ShapeState.{flat, chain-drop}
 use Rattle.rules.proofs.Hoare.{nil, Post, Triple, now, after-post, bind, andThen, whether, perhaps, returns, refuses, writes, before, behind, arrive-post, inLines, askAheadS, askKindS, askPassedS, askLeftS, here-failsS}
 use Rattle.rules.proofs.Cost.{Writes, Spaced, On, Here, Wide, on-less, wide-nexts, expression-on, operands-on, label-on, literals-on}
@@ -58,26 +57,14 @@ unfolding named
 directive-long w r h = omega (arith, place-long 0 (map lower w) directives r long-directives h, length-map w lower)
 
 -- A name's token has its letters.
-text-long : (k : Kind) (w : List ℕ) (f u : ℕ) → textOf k ≡ some w → Holds k f u → length w + f ≤ u
-unfolding textOf
-text-long (word v) w f u h o = let z : v ≡ w = cc in rw (← z) o
-text-long (number v) w f u h o = absurd (true≢false cc)
-text-long (quoted b v) w f u h o = absurd (true≢false cc)
-text-long (mark c) w f u h o = absurd (true≢false cc)
-text-long newline w f u h o = absurd (true≢false cc)
-text-long blank w f u h o = absurd (true≢false cc)
-text-long comment w f u h o = absurd (true≢false cc)
-text-long invalid w f u h o = absurd (true≢false cc)
-text-long end w f u h o = absurd (true≢false cc)
-text-long (bad b) w f u h o = absurd (true≢false cc)
-
 asked-long : (k : Kind) (ask : List ℕ → Option ℕ) (r f u : ℕ) → ((w : List ℕ) (r : ℕ) → ask w ≡ some r → 2 ≤ length w) → maybe (textOf k) none ask ≡ some r → Holds k f u → 2 + f ≤ u
 asked-long k ask r f u l h o =
     let (w, e, i) = asked k ask r h in
-    omega (arith, l w r i, text-long k w f u e o)
+    let n : length w + f ≤ u = rw e at o in
+    omega (arith, l w r i)
 
 operation-word : (table : List ℕ) (k : Kind) (r : ℕ) → operationIn table k ≡ some r → isWord k ≡ true
-unfolding operationIn isWord
+unfolding operationIn isWord textOf
 operation-word table k r h = let (w, e, i) = asked k (operationNamed table) r h in rw e
 
 module _ (n hi D : ℕ) where

@@ -1,9 +1,8 @@
 -- A source of whole lines A and what follows. What A's reading and that of A ++ B say of one another.
-use mathlib.Core.Path.{_≡_, refl, sym, ap, ap₂, subst, _∙_}
+use mathlib.Core.Path.{_≡_, refl, sym, ap, ap₂, _∙_}
 use mathlib.Core.Bool.{Bool, true, false, _&&_, true≢false, false≢true}
-use mathlib.Core.List.{List, [], _∷_, _++_, map, append-assoc, append-nil}
+use mathlib.Core.List.{List, [], _∷_, _++_, map, append-nil}
 use mathlib.Core.Option.{Option, none, some}
-use mathlib.Core.Logic.{_⊎_, inl, inr}
 use Prim.Native.Nat.{ℕ, zero, suc, pred, _+_, _≤_, zero-le}
 use native.Mathlib.Omega.{arith}
 use lib.Dec.{eqb}
@@ -11,19 +10,19 @@ use lib.ListN.{length}
 use Rattle.lexer.specs.Text.{if_then_else_, maybe}
 use Rattle.lexer.specs.Tokens.{tokenAt, sizeOf}
 use Rattle.lexer.specs.declared.TokenRead.{TokenRead}
-use Rattle.rules.specs.Lexemes.{Kind, newline, Lexeme, isGap, kindOf, put, lexeme, tokensFrom}
+use Rattle.rules.specs.Lexemes.{newline, Lexeme, isGap, kindOf, put, lexeme, tokensFrom}
 use Rattle.rules.specs.Records.{Record, ST, LT, moveRecord}
 use Rattle.rules.specs.Reader.{Refusal, at, nowhere, encoding, Answer, done, refused, Reader, Line, after, thence, _>>=_, _>>_, return, write, refusedAs, arrive, ahead, kind, isLineEnd}
-use Rattle.rules.specs.Statements.{Row, State, over, inLine, firstOf, enter, rows, push, skip, skipLines, line, content, times, begun, statement, statements, readRows, Outcome, accepted, refusal, outcome, readFrom}
-use Rattle.rules.proofs.Move.{same, carry, after-carry, Mild, bad-mild, moveToken, moveRefusal, moveLine}
+use Rattle.rules.specs.Statements.{Row, State, over, inLine, firstOf, enter, rows, push, skip, skipLines, line, content, times, begun, statement, statements, readRows, accepted, refusal, outcome, readFrom}
+use Rattle.rules.proofs.Move.{same, carry, after-carry, Mild, moveToken, moveRefusal, moveLine}
 use Rattle.rules.proofs.MoveState.{moveRow, moveState, statement-shifts, unit-state, unit-row}
 use Rattle.lexer.proofs.Branches.{and-split}
 use Rattle.lexer.proofs.TokensLine.{Lines}
 use Rattle.rules.proofs.Lexemes.{tokensWithin, tokens-append, tokens-shift, lines-ended, put-ended, erase, endToken, tokens-end, Ended as Finished}
 use Rattle.rules.proofs.Rows.{Some, rows-some, rows-append, rows-move}
 use Rattle.rules.proofs.Depth.{Deep, equal, limit, line-deep, times-deep}
-use Rattle.rules.proofs.Append.{after-nil, Reads, Continues, continues, reads, Begins, fine, broken, Tail, bare, empty, Ending, end-fine, arrive-fine, begun-ends, statement-ends, enter-ends, skip-ends, closing, coming, Pending, Follows, follows}
-use Rattle.rules.proofs.Progress.{Ended, AllEnded, total, size, Below, enough, only}
+use Rattle.rules.proofs.Append.{after-nil, Reads, Continues, continues, Begins, fine, broken, bare, empty, Ending, end-fine, arrive-fine, begun-ends, statement-ends, enter-ends, closing, coming, Pending, Follows, follows}
+use Rattle.rules.proofs.Progress.{AllEnded, total, size, Below, enough, only}
 
 -- A reading that lacks the content of a `times`.
 abbrev pub Lack : Refusal → Type 0
@@ -34,15 +33,6 @@ Lack (encoding f t a b) = ⊥
 abbrev pub IsOpen : {S A : Type 0} → Answer S A → Type 0
 IsOpen (done w a s) = ⊥
 IsOpen (refused r) = Lack r
-
-pub mild-or-lack : (r : Refusal) → Mild r ⊎ Lack r
-mild-or-lack (at n f t) = go (eqb n 34)
-  where
-    go : (b : Bool) → (b ≡ false) ⊎ (b ≡ true)
-    go true = inr refl
-    go false = inl refl
-mild-or-lack (nowhere n) = inl tt
-mild-or-lack (encoding f t a b) = inl tt
 
 pub not-both : (r : Refusal) → Mild r → Lack r → ⊥
 not-both (at n f t) m l = true≢false (sym l ∙ m)

@@ -1,25 +1,23 @@
 -- DEMAND 3. The patch answers as the full read of the edited source.
-use mathlib.Core.Path.{_≡_, refl, sym, ap, ap₂, _∙_}
-use mathlib.Core.Bool.{Bool, true, false, not, _&&_, _||_, true≢false, false≢true}
-use mathlib.Core.List.{List, [], _∷_, _++_, map, append-assoc, append-nil}
+use mathlib.Core.Path.{_≡_, refl, sym, ap, _∙_}
+use mathlib.Core.Bool.{Bool, true, false, not, _||_, true≢false}
+use mathlib.Core.List.{List, [], _∷_, _++_, append-assoc, append-nil}
 use mathlib.Core.Option.{Option, none, some}
-use Prim.Native.Nat.{ℕ, zero, suc, pred, _+_, _-_, _≤_, zero-le}
+use Prim.Native.Nat.{ℕ, zero, suc, _+_, _-_, _≤_, zero-le}
 use native.Mathlib.Omega.{arith}
-use native.Mathlib.Nat.{le-trans}
 use lib.Dec.{eqb, leb, ltb}
-use lib.ListN.{length, take, drop, getD, length-append, take-append-drop, length-take}
+use lib.ListN.{length, take, drop, getD, length-append, take-append-drop}
 use lib.Seq.{length-take-le}
-use borrow.Author.Tests.{ne-eqb, not-false, le-ltb, ltb-false, eqb-true, leb-true, le-leb}
+use borrow.Author.Tests.{ne-eqb, le-ltb, eqb-true, leb-true}
 use Rattle.lexer.specs.Text.{if_then_else_, maybe, is, among, run}
 use Rattle.lexer.specs.Tokens.{inComment}
-use Rattle.rules.specs.Records.{Record, ST, VC, VL, VI, VS, PF, IN, OR, OS, OI, OF, OD, OX, LL, LI, LD, LC, LT, moveRecord, listing}
-use Rattle.rules.specs.Reader.{Refusal, at, nowhere, encoding, Answer, done, refused, after}
-use Rattle.rules.specs.Statements.{Row, State, rows, readRows, Outcome, accepted, refusal, outcome, readFrom, fullRead}
+use Rattle.rules.specs.Records.{Record, listing}
+use Rattle.rules.specs.Reader.{Refusal, at, nowhere, encoding, Answer, done, refused}
+use Rattle.rules.specs.Statements.{State, Outcome, accepted, refusal, outcome, readFrom, fullRead}
 use Rattle.lexer.proofs.Branches.{and-split}
 use Rattle.lexer.proofs.TokensLine.{Lines}
 use Rattle.rules.specs.Calls.{Result, gives, refuses, unless, mostBytes, tooLong, foreign, ascii, lent, inRoom, listed, fullCall}
 use Rattle.rules.specs.Decode.{decode}
-use Rattle.rules.specs.WellFormed.{wellFormed}
 use Rattle.rules.specs.Patch.{beginsLine, above, lineAt, behind, edited, linesFrom, nearest, lacksContent, isOpen, leavesOpen, openLine, statementFrom, recordsBelow, recordsOn, Edit, exchanged, placedIn, reread, patched, patch}
 use Rattle.rules.proofs.Shape.{Small, small-split, small-append, small-parts}
 use Rattle.rules.proofs.Calls.{Accepted, accepted-call}

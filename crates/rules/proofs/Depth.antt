@@ -1,7 +1,6 @@
 -- Where more `times` may stand within one another, the same is read, unless the limit (5) was met.
-use mathlib.Core.Path.{_≡_, refl, sym, ap, _∙_}
-use mathlib.Core.Bool.{Bool, true, false, _||_}
-use mathlib.Core.List.{List, [], _∷_, _++_}
+use mathlib.Core.Bool.{Bool, true, false}
+use mathlib.Core.List.{List}
 use mathlib.Core.Option.{Option, none, some}
 use Prim.Native.Nat.{ℕ, zero, suc, _≤_}
 use native.Mathlib.Omega.{arith}
@@ -9,11 +8,9 @@ use lib.Dec.{ltb, eqb}
 use Rattle.lexer.specs.Text.{if_then_else_, maybe}
 use Rattle.rules.specs.Lexemes.{Lexeme, nameIn, operationIn}
 use Rattle.names.specs.Names.{directives}
-use Rattle.rules.specs.Records.{Record, LT}
-use Rattle.rules.specs.Reader.{Refusal, at, Answer, done, refused, Reader, Line, after, thence, _>>=_, _>>_, return, write, refuse, ahead, kind, next, refuseHere, isLineEnd}
-use Rattle.rules.specs.Operands.{isWord}
-use Rattle.rules.specs.Expressions.{expression}
-use Rattle.rules.specs.Statements.{State, over, inLine, skipLines, passing, label, instruction, constant, dataOf, line, content, times}
+use Rattle.rules.specs.Records.{Record}
+use Rattle.rules.specs.Reader.{at, Answer, done, refused, Reader, after, thence, _>>=_, _>>_, refuseHere, isLineEnd}
+use Rattle.rules.specs.Statements.{State, over, inLine, passing, line, content, times}
 
 pub data Deep {A : Type 0} : Answer State A → Answer State A → Type 0 where
   equal : {p : Answer State A} → Deep p p

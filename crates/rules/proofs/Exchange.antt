@@ -1,23 +1,21 @@
 -- A line exchanged: the parts of an accepted source are accepted, and what the edited source gives.
 use mathlib.Core.Path.{_≡_, refl, sym, ap, ap₂, _∙_, fun-ext}
-use mathlib.Core.Bool.{Bool, true, false, _&&_, true≢false, false≢true}
+use mathlib.Core.Bool.{Bool, true, false, _&&_, true≢false}
 use mathlib.Core.List.{List, [], _∷_, _++_, map, append-assoc, append-nil}
-use mathlib.Core.Option.{Option, none, some}
-use mathlib.Core.Logic.{_⊎_, inl, inr}
-use Prim.Native.Nat.{ℕ, zero, suc, _+_, _-_, _≤_}
+use mathlib.Core.Option.{none, some}
+use Prim.Native.Nat.{ℕ, suc, _+_, _-_}
 use native.Mathlib.Omega.{arith}
 use lib.ListN.{length, take, drop, length-append}
-use Rattle.lexer.specs.Text.{if_then_else_, maybe}
+use Rattle.lexer.specs.Text.{if_then_else_}
 use Rattle.rules.specs.Lexemes.{Lexeme, tokensFrom}
 use Rattle.rules.specs.Records.{Record, ST, VC, VL, VI, VS, PF, IN, OR, OS, OI, OF, OD, OX, LL, LI, LD, LC, LT, moveRecord}
-use Rattle.rules.specs.Reader.{Refusal, at, nowhere, encoding, Answer, done, refused, after, isLineEnd}
+use Rattle.rules.specs.Reader.{Refusal, at, Answer, done, refused, after, isLineEnd}
 use Rattle.rules.specs.Statements.{Row, State, enter, rows, push, readRows}
-use Rattle.rules.proofs.Move.{Mild, carry, moveRefusal}
+use Rattle.rules.proofs.Move.{carry, moveRefusal}
 use Rattle.rules.proofs.MoveState.{moveState}
 use Rattle.lexer.proofs.Branches.{and-split}
 use Rattle.lexer.proofs.TokensLine.{Lines, lines-end}
-use Rattle.rules.proofs.Append.{Begins}
-use Rattle.rules.proofs.Cut.{IsOpen, Lack, mild-or-lack, not-both, open-after, blankRows, rowsFrom, Gives, gives, begins-only, some-row, Then, goes, stands, lacks, sequel, moved, gives-shift, open-moved, moved-open, lineFeed, alone-open, blank-end, blank-gives, blank-split, nothing-gives, endRow}
+use Rattle.rules.proofs.Cut.{IsOpen, Lack, not-both, open-after, blankRows, rowsFrom, Gives, gives, begins-only, some-row, Then, goes, stands, lacks, sequel, moved, gives-shift, moved-open, lineFeed, alone-open, blank-end, blank-gives, blank-split, nothing-gives, endRow}
 use Rattle.rules.specs.Patch.{allEnds, bareLine, nearest}
 
 -- lines, each with a line feed

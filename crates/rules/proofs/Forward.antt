@@ -2,44 +2,35 @@
 -- and comments. (Document 01, "Operands and statements".) A statement's first token has a byte, and what follows it is not read again; none
 -- is left where the lines' first tokens are all line ends.
 use mathlib.Core.Path.{_≡_, refl, sym, ap, _∙_}
-use mathlib.Core.Bool.{Bool, true, false, _&&_, true≢false, false≢true}
-use mathlib.Core.List.{List, [], _∷_, _++_}
-use mathlib.Core.Option.{Option, none, some}
-use Prim.Native.Nat.{ℕ, zero, suc, _+_, _≤_, _<_}
+use mathlib.Core.Bool.{Bool, true, false, _&&_, true≢false}
+use mathlib.Core.List.{List, [], _∷_}
+use Prim.Native.Nat.{ℕ, _+_, _<_}
 use native.Mathlib.Omega.{arith}
 use lib.ListN.{length, drop}
-use Rattle.lexer.specs.Text.{if_then_else_, maybe}
 use Rattle.lexer.proofs.Branches.{and-split}
-use Rattle.rules.specs.Lexemes.{Lexeme, tokensFrom}
+use Rattle.rules.specs.Lexemes.{tokensFrom}
 use Rattle.rules.specs.Records.{Record, ST}
-use Rattle.rules.specs.Reader.{Refusal, at, Answer, done, refused, after, thence, return, refusedAs, arrive, isLineEnd}
+use Rattle.rules.specs.Reader.{at, Answer, done, refused, after, thence, return, arrive, isLineEnd}
 use Rattle.rules.specs.Statements.{Row, State, rows, firstOf, enter, skipLines, begun, statement, line, times}
-use Rattle.rules.specs.Calls.{Result, gives, refuses, lentAt, Found, nothing, found, oneFound, oneRead, statementCall}
+use Rattle.rules.specs.Calls.{gives, lentAt, nothing, found, oneFound, oneRead, statementCall}
 use Rattle.rules.specs.Patch.{allEnds}
 use Rattle.rules.specs.WellFormed.{Stack, fresh}
 use Rattle.rules.proofs.Table.{Proper}
+use Rattle.rules.proofs.Move.{arrived}
 use Rattle.rules.proofs.Append.{end-fine, arrive-fine, begun-ends}
-use Rattle.rules.proofs.Shape.{Small, small-parts, On}
+use Rattle.rules.proofs.Shape.{Small, small-parts}
 use Rattle.rules.proofs.ShapeState.{Stated, began, ended, failed, statement-stated}
 use Rattle.rules.proofs.LexSound.{chain-plain}
 use Rattle.rules.proofs.Cut.{rowsFrom, some-row, blankRows, arrive-done, skip-blank, skip-over, begun-at, statement-is}
 use Rattle.rules.proofs.Exchange.{ends-rows}
 use Rattle.rules.proofs.Listing.{enter-on, fresh-ready, chain-rows}
-use Rattle.rules.proofs.Calls.{Lent, lentAt-gives, room-gives}
+use Rattle.rules.proofs.Calls.{lentAt-gives, room-gives}
 
 -- A statement that was read leaves the token ahead beyond p.
 abbrev Ahead : ℕ → Answer State Bool → Type 0
 Ahead p (done w true s) = p < s .line .here .from
 Ahead p (done w false s) = Unit {0}
 Ahead p (refused r) = Unit {0}
-
-arrive-ahead : (p : ℕ) (x : Lexeme) (a : Answer State Bool) → Ahead p a → Ahead p (arrive x a)
-unfolding arrive
-arrive-ahead p x a h = go (refusedAs (x .kind))
-  where
-    go : (o : Option ℕ) → Ahead p (maybe o a (λ n. refused (at n (x .from) (x .to))))
-    go none = h
-    go (some n) = tt
 
 stated-ahead : (n hi lo : ℕ) {κ : Stack} {a : Answer State Bool} → Stated n hi lo κ a → Ahead lo a
 stated-ahead n hi lo (began i j l e r y o) = omega (arith, o .low, o .gap)
@@ -128,7 +119,7 @@ module _ (table : List ℕ) where
     one-ahead p t m =
         let n : ℕ = p + length t in
         let (r, rs, e) = some-row p t in
-        rw e (arrive-ahead p (r .first) (statement table (enter r rs))
+        rw e (arrived (Ahead p) (r .first) (λ n i. tt)
         (stated-ahead n n p (statement-stated n n table proper p fresh (enter r rs) (fresh-ready p) (enter-on n n p fresh r rs (chain-rows n n p p t e (chain-plain p t m))))))
 
     -- Each statement read moves at least one byte forward.

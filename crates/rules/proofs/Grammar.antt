@@ -1,7 +1,7 @@
 -- The grammar of expressions by levels, and: the reader reads what the grammar has.
 use mathlib.Core.Path.{_≡_, refl, sym, ap, _∙_}
-use mathlib.Core.Bool.{Bool, true, false, _||_, true≢false, false≢true}
-use mathlib.Core.List.{List, [], _∷_, _++_, map, append-assoc, append-nil}
+use mathlib.Core.Bool.{Bool, true, false, true≢false, false≢true}
+use mathlib.Core.List.{List, [], _∷_, _++_, append-assoc, append-nil}
 use mathlib.Core.Option.{Option, none, some}
 use Prim.Native.Nat.{ℕ, zero, suc, _+_, _≤_, _<_, suc-le-suc}
 use native.Mathlib.Omega.{arith}
@@ -12,8 +12,9 @@ use borrow.Author.Tests.{lt-ltb, le-ltb, eqb-true, ltb-true, ltb-false}
 use Rattle.lexer.specs.Text.{if_then_else_, maybe, is, openText}
 use Rattle.rules.specs.Lexemes.{Kind, word, number, quoted, mark, newline, blank, comment, invalid, end, bad, Lexeme}
 use Rattle.rules.specs.Records.{Record, VC, VL, VI, VS, PF, IN}
-use Rattle.rules.specs.Reader.{Refusal, at, nowhere, encoding, Answer, done, refused, Reader, Line, after, thence, _>>=_, _>>_, return, write, refuse, refusedAs, arrive, step, next, ahead, kind, passed, left, refuseHere, isMark, isLineEnd, expect}
-use Rattle.rules.specs.Expressions.{operatorOf, leftLevel, rightLevel, prefixLevel, character, atomOf, atom, primary, infixes, expr, expression}
+use Rattle.rules.specs.Reader.{Refusal, at, nowhere, Answer, done, refused, Reader, Line, after, thence, _>>=_, _>>_, return, write, refuse, refusedAs, arrive, step, next, ahead, kind, passed, left, refuseHere, isMark, isLineEnd, expect}
+use Rattle.rules.proofs.Append.{after-nil, after-after}
+use Rattle.rules.specs.Expressions.{operatorOf, leftLevel, rightLevel, prefixLevel, character, atomOf, atom, primary, infixes, expr}
 
 abbrev pub tok : ℕ → ℕ → Kind → Lexeme
 tok f t k = record { from = f; to = t; kind = k }
@@ -60,27 +61,9 @@ next-step : (l : ℕ) (x y : Lexeme) (ys : List Lexeme) → refusedAs (y .kind) 
 unfolding next step arrive
 next-step l x y ys h = rw h
 
-after-nil : {A : Type 0} (p : Answer Line A) → after [] p ≡ p
-unfolding after
-after-nil (done w a s) = refl
-after-nil (refused r) = refl
-
-after-after : {A : Type 0} (w v : List Record) (p : Answer Line A) → after w (after v p) ≡ after (w ++ v) p
-unfolding after
-after-after w v (done u a s) = rw (append-assoc w v u)
-after-after w v (refused r) = refl
-
 after-done : (w : List Record) (s : Line) → _≡_ {A = Answer Line (Unit {0})} (after w (done [] tt s)) (done w tt s)
 unfolding after
 after-done w s = rw (append-nil w)
-
-bind-step : {A B : Type 0} (m : Reader Line A) (k : A → Reader Line B) (s t : Line) (w : List Record) (a : A) → m s ≡ done w a t → (m >>= k) s ≡ after w (k a t)
-unfolding _>>=_ thence
-bind-step m k s t w a h = rw h
-
-then-step : {A B : Type 0} (m : Reader Line A) (k : Reader Line B) (s t : Line) (w : List Record) (a : A) → m s ≡ done w a t → (m >> k) s ≡ after w (k t)
-unfolding _>>_ _>>=_ thence
-then-step m k s t w a h = rw h
 
 abbrev Body : ℕ → ℕ → ℕ → Reader Line (Unit {0})
 Body d level f = primary (expr d) >> (left >>= λ n. infixes n (expr d) level f)
@@ -131,11 +114,8 @@ finish : (d p : ℕ) (x : Lexeme) (xs : List Lexeme) (w : List Record) → Goes 
 finish zero p x xs w g = absurd g
 finish (suc d) p x xs w g = finish-one d p x xs w g
 
-zero-one : _≡_ {A = ℕ} 0 1 → ⊥
-zero-one h = omega arith
-
 no-operator : (op : ℕ) → _≡_ {A = Option ℕ} none (some op) → ⊥
-no-operator op h = let c : _≡_ {A = ℕ} 0 1 = cc in zero-one c
+no-operator op h = true≢false cc
 
 close-none : operatorOf (mark 41) ≡ none
 unfolding operatorOf isMark openText

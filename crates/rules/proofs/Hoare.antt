@@ -1,7 +1,7 @@
 -- A logic of readers. Each record that is written takes something that no reader sees one step on: the stack that the listing's check keeps,
 -- the number of bytes written. `Triple Step P m Q`: from P, m's records lead to Q, or m refuses. It is closed under what readers are made
 -- of, so each reader's proof follows its text.
-use mathlib.Core.Path.{_≡_, refl, sym, subst}
+use mathlib.Core.Path.{_≡_, refl}
 use mathlib.Core.Bool.{Bool, true, false}
 use mathlib.Core.List.{List, [], _∷_, _++_}
 use mathlib.Core.Option.{Option, none, some}
@@ -10,8 +10,9 @@ use lib.ListN.{length}
 use Rattle.lexer.specs.Text.{if_then_else_, maybe}
 use Rattle.rules.specs.Lexemes.{Kind, Lexeme}
 use Rattle.rules.specs.Records.{Record}
-use Rattle.rules.specs.Reader.{Refusal, at, Answer, done, refused, Reader, Line, after, thence, _>>=_, _>>_, return, write, refuse, orBack, attempt, refusedAs, arrive, ahead, kind, passed, left, refuseHere}
+use Rattle.rules.specs.Reader.{Refusal, Answer, done, refused, Reader, Line, after, thence, _>>=_, _>>_, return, write, refuse, orBack, attempt, arrive, ahead, kind, passed, left, refuseHere}
 use Rattle.rules.specs.Statements.{Row, State, over, inLine}
+use Rattle.rules.proofs.Move.{arrived}
 
 -- Records, each of which is a step.
 pub data Run {G : Type 0} (Step : G → Record → G → Type 0) : G → List Record → G → Type 0 where
@@ -95,12 +96,7 @@ module _ {G : Type 0} {Step : G → Record → G → Type 0} where
     derive h p = record { law = λ g s q. p (h g s q) .law g s q }
 
     pub arrive-post : {A : Type 0} {Q : A → G → S → Type 0} {g : G} (x : Lexeme) {p : Answer S A} → Post Step Q g p → Post Step Q g (arrive x p)
-    unfolding arrive
-    arrive-post {Q = Q} {g} x {p} h = go (refusedAs (x .kind))
-      where
-        go : (o : Option ℕ) → Post Step Q g (maybe o p (λ m. refused (at m (x .from) (x .to))))
-        go none = h
-        go (some m) = fails
+    arrive-post {Q = Q} {g} x h = arrived (Post Step Q g) x (λ n e. fails) h
 
     -- a reading that goes back where it finds nothing
     orBack-post : {A : Type 0} {Q : Option A → G → S → Type 0} {R : A → G → S → Type 0} {g : G} (a : A) (s : S) → ((b : A) (g : G) (t : S) → Q (some b) g t → R b g t) → R a g s

@@ -1,13 +1,12 @@
 -- Samples of the patch and of the statement read, computed: what document 01 says of each refusal's order, and small edits.
 use mathlib.Core.Path.{_≡_, refl}
-use mathlib.Core.Bool.{Bool, true, false}
 use mathlib.Core.List.{List, [], _∷_}
 use Prim.Native.Nat.{ℕ}
 use Prim.Native.String.{String}
 use Rattle.lexer.specs.Text.{bytes}
 use Rattle.names.specs.Table.{operations, spellings, row, rowsOf}
-use Rattle.rules.specs.Records.{Record, ST, VC, VL, LL, LI, LC, LT, listing}
-use Rattle.rules.specs.Reader.{Refusal, at, nowhere, encoding}
+use Rattle.rules.specs.Records.{Record, ST, VC, LL, LI, LC, LT, listing}
+use Rattle.rules.specs.Reader.{at, nowhere}
 use Rattle.rules.specs.Calls.{Result, gives, refuses, Found, nothing, found, statementCall}
 use Rattle.rules.specs.Patch.{Edit, patch, openPatch}
 

@@ -1,8 +1,8 @@
 pub mod Table
 pub mod Records
+pub mod TokenKinds
 pub mod Move
 pub mod MoveState
-pub mod Mild
 pub mod Lexemes
 pub mod Rows
 pub mod Decoded

@@ -1,27 +1,26 @@
 -- The listing of a reading: well-formed, its statements in their places, and its bytes decode to its records.
-use mathlib.Core.Path.{_≡_, refl, sym, ap, _∙_}
-use mathlib.Core.Bool.{Bool, true, false, _&&_, true≢false}
+use mathlib.Core.Path.{_≡_, refl, sym, _∙_}
+use mathlib.Core.Bool.{Bool, true, false, true≢false}
 use mathlib.Core.List.{List, [], _∷_, _++_}
-use mathlib.Core.Option.{Option, none, some}
-use Prim.Native.Nat.{ℕ, zero, suc, _+_, _*_, _≤_, _<_, zero-le}
+use mathlib.Core.Option.{some}
+use Prim.Native.Nat.{ℕ, _+_, _≤_, _<_, zero-le}
 use native.Mathlib.Omega.{arith}
 use native.Mathlib.Nat.{le-refl, le-trans}
-use lib.Dec.{eqb, leb, ltb}
+use lib.Dec.{leb}
 use lib.ListN.{length}
-use borrow.Author.Tests.{le-leb, lt-leb, leb-true, ltb-true}
-use Rattle.lexer.specs.Text.{maybe}
-use Rattle.rules.specs.Lexemes.{Lexeme, tokensFrom}
+use borrow.Author.Tests.{le-leb, lt-leb, leb-true}
+use Rattle.rules.specs.Lexemes.{tokensFrom}
 use Rattle.rules.specs.Records.{Record, ST, VC, VL, VI, VS, PF, IN, OR, OS, OI, OF, OD, OX, LL, LI, LD, LC, LT, listing}
 use Rattle.rules.specs.Reader.{Refusal, Answer, done, refused, after}
 use Rattle.rules.specs.Statements.{Row, State, firstOf, enter, accepted, fullRead}
 use Rattle.rules.specs.Decode.{decode}
-use Rattle.rules.specs.WellFormed.{Stack, allow, complete, spans, given, checked, checkedAll, fresh, wellFormed, toExpression, toOperand, toLine, stack}
+use Rattle.rules.specs.WellFormed.{Stack, complete, checked, checkedAll, fresh, wellFormed}
 use Rattle.rules.specs.Patch.{statementFrom}
 use Rattle.rules.proofs.Table.{Proper}
 use Rattle.rules.proofs.Append.{Reads, Begins, fine, broken}
 use Rattle.rules.proofs.Hoare.{Run, nil, cons}
-use Rattle.rules.proofs.Shape.{Small, Chain, chain-low, Checks, On}
-use Rattle.rules.proofs.ShapeState.{flat, OnS, Ready, Stated, began, ended, failed, statement-stated}
+use Rattle.rules.proofs.Shape.{Small, Chain, chain-low, Checks}
+use Rattle.rules.proofs.ShapeState.{flat, OnS, Ready, Stated, began, ended, statement-stated}
 use Rattle.rules.proofs.LexSound.{chain-plain, chain-feed, flat-rows}
 use Rattle.rules.proofs.Cut.{rowsFrom, Gives, lineFeed, accepts-run}
 use Rattle.rules.proofs.Decoded.{decoded}

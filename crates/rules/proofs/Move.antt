@@ -1,17 +1,17 @@
 -- Moving: what a reader does with tokens whose places are moved is what it does with the tokens, moved, since no rule computes with a place.
 -- `Moves` says so for a map of states, records and refusals. In the same walk through the readers rides that a property P of states is
 -- kept and that each refusal is one of M. All three are closed under what readers are made of, so each reader's proof follows its text.
-use mathlib.Core.Path.{_≡_, refl, sym, ap, ap₂, _∙_}
+use mathlib.Core.Path.{_≡_, refl, sym, ap, _∙_}
 use mathlib.Core.Bool.{Bool, true, false, _||_}
 use mathlib.Core.List.{List, [], _∷_, _++_, map}
 use mathlib.Core.Option.{Option, none, some}
 use Prim.Native.Nat.{ℕ, zero, suc}
 use Prim.Native.Char.{Char}
 use lib.Dec.{ltb, eqb}
-use lib.ListN.{length, length-map}
+use lib.ListN.{length-map}
 use Rattle.lexer.specs.Text.{if_then_else_, maybe, is}
 use Rattle.rules.specs.Lexemes.{Kind, word, number, quoted, mark, newline, blank, comment, invalid, end, bad, Lexeme, nameIn}
-use Rattle.rules.specs.Records.{Record, ST, VC, VL, VI, VS, PF, IN, OR, OS, OI, OF, OD, OX, LL, LI, LD, LC, LT, moveRecord}
+use Rattle.rules.specs.Records.{Record, moveRecord}
 use Rattle.rules.specs.Reader.{Refusal, at, nowhere, encoding, Answer, done, refused, Reader, Line, after, thence, _>>=_, _>>_, return, write, refuse, orBack, attempt, refusedAs, arrive, step, next, ahead, kind, passed, left, refuseHere, isMark, isLineEnd, expect}
 use Rattle.names.specs.Names.{registers, segments, sizes}
 use Rattle.rules.specs.Operands.{immediateOrFar, alone, isIndex, isBase, paired, plusIndex, second, registersAhead, displacement, close, override, isWord, isNumber, memory, operandSized, operand, Operands, operands}
@@ -66,11 +66,12 @@ unfolding thence
 thence-stays P M k e (done w a s) h = after-stays P M w (k a s) (e a s h)
 thence-stays P M k e (refused r) h = h
 
-pub arrive-stays : {S A : Type 0} (P : S → Type 0) (M : Refusal → Type 0) (x : Lexeme) (p : Answer S A) → ((n : ℕ) → refusedAs (x .kind) ≡ some n → M (at n (x .from) (x .to))) → Stays P M p → Stays P M (arrive x p)
+-- What holds of an answer and of the token's refusal holds where the token is arrived at.
+pub arrived : {S A : Type 0} (T : Answer S A → Type 0) (x : Lexeme) {p : Answer S A} → ((n : ℕ) → refusedAs (x .kind) ≡ some n → T (refused (at n (x .from) (x .to)))) → T p → T (arrive x p)
 unfolding arrive
-arrive-stays P M x p m h = go (refusedAs (x .kind)) refl
+arrived T x {p} m h = go (refusedAs (x .kind)) refl
   where
-    go : (o : Option ℕ) → refusedAs (x .kind) ≡ o → Stays P M (maybe o p (λ n. refused (at n (x .from) (x .to))))
+    go : (o : Option ℕ) → refusedAs (x .kind) ≡ o → T (maybe o p (λ n. refused (at n (x .from) (x .to))))
     go none e = h
     go (some n) e = m n e
 
@@ -343,7 +344,7 @@ next-mild = record { law = λ s. go (s .more) s }
   where
     go : (xs : List Lexeme) (s : Line) → Stays (λ _. Unit {0}) Mild (step xs s)
     go [] s = tt
-    go (x ∷ xs) s = arrive-stays (λ _. Unit {0}) Mild x _ (λ n e. bad-mild (x .kind) n e) tt
+    go (x ∷ xs) s = arrived (Stays (λ _. Unit {0}) Mild) x (λ n e. bad-mild (x .kind) n e) tt
 
 -- What moves is gentle: the walk says so for any P.
 pub gentle : {A : Type 0} {g : A → A} {m m′ : Reader Line A} → ((P : Line → Type 0) → ((s : Line) → P s → Stays P Mild (next s)) → Shifts same P g m m′) → Gentle m

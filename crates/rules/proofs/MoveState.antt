@@ -1,21 +1,19 @@
 -- SHIFT for statements and the full read.
-use mathlib.Core.Path.{_≡_, refl, sym, ap, ap₂, _∙_}
+use mathlib.Core.Path.{_≡_, refl, ap, _∙_}
 use mathlib.Core.Bool.{Bool, true, false, _||_}
 use mathlib.Core.List.{List, [], _∷_, _++_, map}
-use mathlib.Core.Option.{Option, none, some}
 use Prim.Native.Nat.{ℕ, zero, suc}
-use Prim.Native.Char.{Char}
 use lib.Dec.{ltb, eqb}
-use lib.ListN.{length, length-map, take}
-use Rattle.lexer.specs.Text.{if_then_else_, maybe, is}
+use lib.ListN.{take}
+use Rattle.lexer.specs.Text.{if_then_else_, is}
 use Rattle.rules.specs.Lexemes.{Kind, word, number, quoted, mark, newline, blank, comment, invalid, end, bad, Lexeme, nameIn, operationIn}
 use Rattle.names.specs.Names.{directives}
-use Rattle.rules.specs.Records.{Record, ST, LL, LI, LD, LC, LT, field, moveRecord}
-use Rattle.rules.specs.Reader.{Refusal, at, nowhere, encoding, Answer, done, refused, Reader, Line, after, thence, _>>=_, _>>_, return, write, refuse, refusedAs, arrive, next, ahead, kind, passed, left, refuseHere, isMark, isLineEnd, expect}
-use Rattle.rules.specs.Operands.{isWord, Operands, operands}
+use Rattle.rules.specs.Records.{field, moveRecord}
+use Rattle.rules.specs.Reader.{Answer, done, refused, Reader, Line, arrive, next, isMark, isLineEnd, ahead, passed, left, refuseHere}
+use Rattle.rules.specs.Operands.{operands, isWord}
 use Rattle.rules.specs.Expressions.{expression}
-use Rattle.rules.specs.Statements.{Row, State, over, inLine, firstOf, enter, stepRow, nextRow, lineEnd, skip, skipLines, passing, label, rep, repne, instruction, constant, literalOf, literals, someData, dataOf, line, content, times, begun, statement, statements, readRows}
-use Rattle.rules.proofs.Move.{Mild, Any, Stays, arrive-stays, next-mild, same, carry, Moves, bind, andThen, returns, writes, refuses, whether, perhaps, moveToken, moveRefusal, moveLine, Shifts, arrive-moves, next-shifts, ahead-shifts, kind-shifts, passed-shifts, left-shifts, here-shifts, expression-shifts, moveOperands, operands-shifts}
+use Rattle.rules.specs.Statements.{Row, State, over, inLine, firstOf, enter, stepRow, nextRow, lineEnd, skip, skipLines, passing, label, rep, repne, instruction, constant, literalOf, literals, someData, dataOf, line, content, times, begun, statement}
+use Rattle.rules.proofs.Move.{Mild, Any, Stays, arrived, Gentle, gentle, next-mild, same, carry, Moves, bind, andThen, returns, writes, refuses, whether, perhaps, moveToken, moveRefusal, moveLine, Shifts, arrive-moves, next-shifts, ahead-shifts, kind-shifts, passed-shifts, left-shifts, here-shifts, expression-shifts, moveOperands, operands-shifts}
 
 module _ (f : ℕ → ℕ) where
   unfoldable pub moveRow : Row → Row
@@ -91,7 +89,7 @@ module _ (f : ℕ → ℕ) (P : State → Type 0)
   stepRow-stays : (l : Line) (rs : List Row) → P (record { line = l; below = rs }) → Stays P Any (stepRow rs (record { line = l; below = rs }))
   unfolding stepRow
   stepRow-stays l [] h = h
-  stepRow-stays l (r ∷ rs) h = arrive-stays P Any (r .first) _ (λ n e. tt) (closed-row l r rs h)
+  stepRow-stays l (r ∷ rs) h = arrived (Stays P Any) (r .first) (λ n e. tt) (closed-row l r rs h)
 
   skip-stays : (l : Line) (rs : List Row) → P (record { line = l; below = rs }) → Stays P Any (skip l rs)
   unfolding skip enter
@@ -102,7 +100,7 @@ module _ (f : ℕ → ℕ) (P : State → Type 0)
       t = firstOf r
 
       go : (c : Bool) → Stays P Any (skip t rs) → Stays P Any (if_then_else_ {A = Answer State (Unit {0})} c (arrive (r .first) (skip t rs)) (done [] tt (record { line = l; below = r ∷ rs })))
-      go true i = arrive-stays P Any (r .first) (skip t rs) (λ n e. tt) i
+      go true i = arrived (Stays P Any) (r .first) (λ n e. tt) i
       go false i = h
 
   pub inLines : {A : Type 0} {g : A → A} {m m′ : Reader Line A} → ((Q : Line → Type 0) → ((l : Line) → Q l → Stays Q Mild (next l)) → Shifts f Q g m m′) → ShiftsState f P g (inLine m) (inLine m′)
@@ -172,7 +170,27 @@ module _ (f : ℕ → ℕ) (P : State → Type 0)
     unfolding statement
     statement-shifts = andThen skipLines-shifts begun-shifts
 
-    pub statements-shifts : (n : ℕ) → ShiftsState f P same (statements table n) (statements table n)
-    unfolding statements
-    statements-shifts zero = returns same tt
-    statements-shifts (suc n) = bind _ statement-shifts λ b. whether b (statements-shifts n) (returns same tt)
+-- What is read within a line is never refused with 34, so that it doesn't depend on the lines below: it rides along with moving.
+pub ahead-mild : Gentle ahead
+ahead-mild = gentle (ahead-shifts same)
+
+pub passed-mild : Gentle passed
+passed-mild = gentle (passed-shifts same)
+
+pub left-mild : Gentle left
+left-mild = gentle (left-shifts same)
+
+pub here-mild : {A : Type 0} (n : ℕ) → eqb n 34 ≡ false → Gentle (refuseHere {A = A} n)
+here-mild n h = gentle (λ P c. here-shifts same P c same n h)
+
+pub expression-mild : Gentle expression
+expression-mild = gentle (expression-shifts same)
+
+pub operands-mild : Gentle operands
+operands-mild = gentle (operands-shifts same)
+
+pub label-mild : (x : Lexeme) → Gentle (label x)
+label-mild x = gentle (λ P c. label-shifts same P c x)
+
+pub literals-mild : (n width : ℕ) → Gentle (literals n width)
+literals-mild n width = gentle (λ P c. literals-shifts same P c n width)

@@ -1,23 +1,22 @@
 -- Every statement read moves forward, so that the fuel of the full read is enough.
-use mathlib.Core.Path.{_≡_, refl, sym, ap, _∙_}
-use mathlib.Core.Bool.{Bool, true, false, true≢false, false≢true}
-use mathlib.Core.List.{List, [], _∷_, _++_, append-nil}
+use mathlib.Core.Path.{_≡_, refl, sym, _∙_}
+use mathlib.Core.Bool.{Bool, true, false, true≢false}
+use mathlib.Core.List.{List, [], _∷_, append-nil}
 use mathlib.Core.Option.{Option, none, some}
-use Prim.Native.String.{String}
-use Prim.Native.Nat.{ℕ, zero, suc, _+_, _≤_, _<_}
+use Prim.Native.Nat.{ℕ, zero, suc, _+_, _≤_}
 use native.Mathlib.Omega.{arith}
-use native.Mathlib.Nat.{le-refl}
 use lib.Dec.{eqb, ltb}
 use lib.ListN.{length}
 use Rattle.lexer.specs.Text.{if_then_else_, maybe}
-use Rattle.rules.specs.Lexemes.{Kind, word, number, quoted, mark, newline, blank, comment, invalid, end, bad, Lexeme, textOf, nameIn, operationIn}
-use Rattle.names.specs.Names.{directives, named, operationNamed}
+use Rattle.rules.specs.Lexemes.{Kind, Lexeme, nameIn, operationIn}
+use Rattle.names.specs.Names.{directives}
 use Rattle.rules.specs.Records.{Record, ST}
-use Rattle.rules.specs.Reader.{Refusal, at, Answer, done, refused, Reader, Line, after, thence, _>>=_, _>>_, return, write, refusedAs, arrive, step, next, ahead, refuseHere, isLineEnd}
+use Rattle.rules.specs.Reader.{at, Answer, done, refused, Reader, Line, after, thence, _>>=_, _>>_, return, write, refusedAs, arrive, step, next, ahead, refuseHere, isLineEnd}
 use Rattle.rules.specs.Operands.{isWord}
-use Rattle.rules.specs.Statements.{Row, State, over, inLine, firstOf, enter, skipLines, passing, label, instruction, constant, dataOf, line, content, times, begun, statement, statements}
-use Rattle.rules.proofs.Move.{Mild, Any, Stays, arrive-stays, bad-mild, same, Moves, andThen, after-stays, thence-stays, next-shifts, expression-shifts}
-use Rattle.rules.proofs.MoveState.{ShiftsState, skipLines-shifts, inLines, label-shifts, instruction-shifts, constant-shifts, dataOf-shifts, content-shifts, times-shifts}
+use Rattle.rules.specs.Statements.{Row, State, over, inLine, firstOf, enter, skipLines, passing, label, instruction, constant, dataOf, line, times, begun, statement, statements}
+use Rattle.rules.proofs.TokenKinds.{word-inside, name-inside, operation-inside}
+use Rattle.rules.proofs.Move.{Mild, Any, Stays, arrived, bad-mild, same, andThen, after-stays, thence-stays, expression-shifts}
+use Rattle.rules.proofs.MoveState.{skipLines-shifts, inLines, label-shifts, instruction-shifts, constant-shifts, dataOf-shifts, content-shifts, times-shifts}
 use Rattle.rules.proofs.Append.{Reads, stop, fail, go}
 
 abbrev pub Ended : Lexeme → List Lexeme → Type 0
@@ -48,7 +47,7 @@ module _ (n : ℕ) where
     where
       stepped : (ys : List Lexeme) → length ys + total rs ≤ n → Ended (l .here) ys → Stays (λ t. Below n (record { line = t; below = rs })) Mild (step ys (record { last = l .last; here = l .here; more = ys }))
       stepped [] i j = record { few = i; ended = refl; others = h .others }
-      stepped (y ∷ ys) i j = arrive-stays (λ (t : Line). Below n (record { line = t; below = rs })) Mild y _ (λ m e. bad-mild (y .kind) m e) (record { few = omega arith; ended = j; others = h .others })
+      stepped (y ∷ ys) i j = arrived (Stays (λ (t : Line). Below n (record { line = t; below = rs })) Mild) y (λ m e. bad-mild (y .kind) m e) (record { few = omega arith; ended = j; others = h .others })
 
   closed-row : (l : Line) (r : Row) (rs : List Row) → Below n (record { line = l; below = r ∷ rs }) → Below n (enter r rs)
   unfolding firstOf enter size
@@ -85,44 +84,6 @@ passing-falls n s h i m g = thence-stays (Lower n) Any (λ _. m) (λ _ t j. lowe
     lowered : (k : ℕ) (t : State) → Lower k t → Stays (Lower k) Any (m t)
     lowered zero t j = absurd j
     lowered (suc k) t j = g k t j
-
--- A name is no line end.
-pub text-inside : (k : Kind) (w : List ℕ) → textOf k ≡ some w → isLineEnd k ≡ false
-unfolding textOf isLineEnd
-text-inside (word w) v h = refl
-text-inside (number v) w h = refl
-text-inside (quoted b v) w h = refl
-text-inside (mark c) w h = refl
-text-inside newline w h = cc
-text-inside blank w h = refl
-text-inside comment w h = refl
-text-inside invalid w h = refl
-text-inside end w h = cc
-text-inside (bad n) w h = refl
-
--- What is asked of a name's text is answered for a name only.
-asked-inside : (k : Kind) (ask : List ℕ → Option ℕ) (n : ℕ) → maybe (textOf k) none ask ≡ some n → isLineEnd k ≡ false
-asked-inside k ask n = go (textOf k) refl
-  where
-    go : (o : Option (List ℕ)) → textOf k ≡ o → maybe o none ask ≡ some n → isLineEnd k ≡ false
-    go none e h = cc
-    go (some w) e h = text-inside k w e
-
-pub word-inside : (k : Kind) → isWord k ≡ true → isLineEnd k ≡ false
-unfolding isWord
-word-inside k = go (textOf k) refl
-  where
-    go : (o : Option (List ℕ)) → textOf k ≡ o → maybe o false (λ w. true) ≡ true → isLineEnd k ≡ false
-    go none e h = absurd (false≢true h)
-    go (some w) e h = text-inside k w e
-
-pub name-inside : (names : List String) (k : Kind) (n : ℕ) → nameIn names k ≡ some n → isLineEnd k ≡ false
-unfolding nameIn
-name-inside names k n h = asked-inside k (named names) n h
-
-pub operation-inside : (table : List ℕ) (k : Kind) (n : ℕ) → operationIn table k ≡ some n → isLineEnd k ≡ false
-unfolding operationIn
-operation-inside table k n h = asked-inside k (operationNamed table) n h
 
 abbrev here′ : State → Kind
 here′ s = s .line .here .kind
@@ -223,7 +184,3 @@ module _ (table : List ℕ) where
       let c : t′ ≡ t = cc in
       let i : p ≡ p′ = only r (rw c at r′) in
       cc
-
-  -- So an equation: with more fuel than tokens left, whatever is read is what `statements` gives.
-  pub statements-reads : (n : ℕ) (s : State) → Below n s → {p : Answer State (Unit {0})} → Reads table s p → statements table (suc n) s ≡ p
-  statements-reads n s h r = only (enough n s h) r

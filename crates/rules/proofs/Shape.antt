@@ -1,29 +1,30 @@
 -- The listing that is read is well-formed: its records, one by one, take the stack of the listing's check on, and the tokens' places rise, so
 -- that every span is in range.
-use mathlib.Core.Path.{_≡_, refl, sym, ap, ap₂, _∙_}
-use mathlib.Core.Bool.{Bool, true, false, not, _&&_, _||_, true≢false, false≢true}
-use mathlib.Core.List.{List, [], _∷_, _++_, map, append-assoc, append-nil}
+use mathlib.Core.Path.{_≡_, refl, sym, ap, _∙_}
+use mathlib.Core.Bool.{Bool, true, false, _||_, true≢false}
+use mathlib.Core.List.{List, [], _∷_, _++_}
 use mathlib.Core.Option.{Option, none, some}
 use Prim.Native.Nat.{ℕ, zero, suc, _+_, _*_, _-_, _≤_, _<_, zero-le}
 use Prim.Native.Char.{Char}
 use Prim.Native.String.{String}
 use native.Mathlib.Omega.{arith}
 use native.Mathlib.Nat.{le-refl, le-trans}
-use lib.Dec.{eqb, leb, ltb}
+use lib.Dec.{eqb, ltb}
 use lib.ListN.{length, take, drop, length-append, length-take, take-append-drop}
-use borrow.Author.Tests.{le-leb, lt-ltb, le-ltb, ne-eqb, eq-eqb, ltb-true}
+use borrow.Author.Tests.{le-leb, lt-ltb, eq-eqb}
 use Rattle.lexer.specs.Text.{if_then_else_, maybe, is, bytes, same}
-use Rattle.rules.specs.Lexemes.{Kind, word, number, quoted, mark, newline, blank, comment, invalid, end, bad, Lexeme, textOf, nameIn, operationIn}
-use Rattle.names.specs.Names.{registers, segments, sizes, directives, named, operationNamed, placeFrom}
+use Rattle.rules.specs.Lexemes.{Kind, word, number, quoted, mark, newline, blank, comment, invalid, end, bad, Lexeme, nameIn, operationIn}
+use Rattle.names.specs.Names.{registers, segments, sizes, named, operationNamed, placeFrom}
 use Rattle.rules.specs.Records.{Record, ST, VC, VL, VI, VS, PF, IN, OR, OS, OI, OF, OD, OX, LL, LI, LD, LC, LT, field}
-use Rattle.rules.specs.Reader.{Refusal, at, nowhere, encoding, Answer, done, refused, Reader, Line, after, thence, _>>=_, _>>_, return, write, refuse, orBack, attempt, refusedAs, arrive, step, next, ahead, kind, passed, left, refuseHere, isMark, isLineEnd, expect}
+use Rattle.rules.specs.Reader.{at, Reader, Line, _>>=_, _>>_, return, write, refuse, step, next, ahead, kind, passed, isMark, isLineEnd, expect}
 use Rattle.rules.specs.Expressions.{operatorOf, leftLevel, rightLevel, prefixLevel, character, atomOf, atom, primary, infixes, expr, expression}
 use Rattle.rules.specs.Operands.{immediateOrFar, alone, isIndex, isBase, paired, plusIndex, second, registersAhead, displacement, close, override, isWord, isNumber, memory, operandSized, operand, Operands, operands}
 use Rattle.rules.specs.Statements.{label, literalOf, literals}
-use Rattle.rules.specs.WellFormed.{Stack, stack, allow, toExpression, toOperand, toLine, complete, spans, given, checked, checkedAll}
+use Rattle.rules.specs.WellFormed.{Stack, stack, allow, toExpression, toOperand, toLine, spans, given, checked}
 use Rattle.rules.specs.Patch.{statementFrom}
 use Rattle.rules.proofs.Table.{Proper}
-use Rattle.rules.proofs.Hoare.{Run, nil, cons, Post, holds, fails, Triple, bind, andThen, whether, perhaps, returns, refuses, writes, before, behind, known, derive, arrive-post, attempts, askAhead, askKind, askPassed, askLeft, here-fails}
+use Rattle.rules.proofs.TokenKinds.{asked}
+use Rattle.rules.proofs.Hoare.{nil, Post, holds, Triple, bind, andThen, whether, perhaps, returns, refuses, writes, before, behind, known, derive, arrive-post, attempts, askAhead, askKind, askPassed, askLeft, here-fails}
 
 -- What a record holds besides what the check tests.
 abbrev pub Extra : Record → Type 0
@@ -126,14 +127,6 @@ place-small m w (row ∷ t) r h = go (same w (bytes row)) h (λ e. place-small (
     go true e again = let z : m ≡ r = cc in omega arith
     go false e again = omega (arith, again e)
 
--- What is asked of a token's text is answered for a name.
-pub asked : (k : Kind) (ask : List ℕ → Option ℕ) (r : ℕ) → maybe (textOf k) none ask ≡ some r → (w : List ℕ) × (textOf k ≡ some w) × (ask w ≡ some r)
-asked k ask r = go (textOf k) refl
-  where
-    go : (o : Option (List ℕ)) → textOf k ≡ o → maybe o none ask ≡ some r → (w : List ℕ) × (textOf k ≡ some w) × (ask w ≡ some r)
-    go none e h = absurd (true≢false cc)
-    go (some w) e h = (w, e, h)
-
 name-small : (t : List String) (k : Kind) (r : ℕ) → nameIn t k ≡ some r → r < length t
 unfolding nameIn named
 name-small t k r h = let (w, e, i) = asked k (named t) r h in omega (arith, place-small 0 _ t r i)
@@ -154,10 +147,6 @@ size-small k r h = name-small sizes k r h
 pub operation-small : (table : List ℕ) → Proper table → (k : Kind) (r : ℕ) → operationIn table k ≡ some r → r < 99
 unfolding operationIn
 operation-small table p k r h = let (w, e, i) = asked k (operationNamed table) r h in p .small w r i
-
-pub directive-small : (k : Kind) (r : ℕ) → nameIn directives k ≡ some r → r < 4
-unfolding directives
-directive-small k r h = name-small directives k r h
 
 alone-small : (r : ℕ) → alone r < 8
 unfolding alone
@@ -254,7 +243,7 @@ module _ (p0 : ℕ) where
     join = λ i. expression-second 2 e (suc (suc i)) (suc i) (omega arith) (omega arith);
   }
 
-width-four : (width v : ℕ) → length (take width (field v)) ≤ 4
+pub width-four : (width v : ℕ) → length (take width (field v)) ≤ 4
 unfolding field
 width-four width v = omega (arith, length-take width (field v))
 
@@ -409,20 +398,16 @@ module _ (n hi p0 : ℕ) (rest : List Lexeme) where
 
     -- An operand, which makes D of the context.
     module _ {D : Stack} (lone : toOperand 0 (C 0) ≡ some D) (single : toOperand 1 (C 1) ≡ some D) (double : toOperand 2 (C 2) ≡ some D) where
-      written : (i f t : ℕ) (o : Option Stack) (c : Bool) → c ≡ true → p0 ≤ f → f ≤ t → t ≤ n → o ≡ some D → given (spans n (C i) f t && c) o ≡ some D
+      written : (i f t : ℕ) (o : Option Stack) → p0 ≤ f → f ≤ t → t ≤ n → o ≡ some D → given (spans n (C i) f t) o ≡ some D
       unfolding given
-      written i f t o c h u v l e = rw (span-true (C i) f t (ctx .places i) u v l, h) e
-
-      written-plain : (i f t : ℕ) (o : Option Stack) → p0 ≤ f → f ≤ t → t ≤ n → o ≡ some D → given (spans n (C i) f t) o ≡ some D
-      unfolding given
-      written-plain i f t o u v l e = rw (span-true (C i) f t (ctx .places i) u v l) e
+      written i f t o u v l e = rw (span-true (C i) f t (ctx .places i) u v l) e
 
       immediate-on : {b c : ℕ} → Triple (Checks n) (On b c (C 0)) immediateOrFar (λ _. On c 0 D)
       unfolding immediateOrFar checked statementFrom
       immediate-on = aheadThen λ x f. behind (λ _ k s h. on-less (f .soon) (le-refl 0) h) (andThen (expression-on 0) (λ _. kindThen _ λ y g. whether (isMark ":" (y .kind))
           (λ _. behind (λ _ k s h. on-less (le-trans (g .later) (g .sound .ordered)) (le-refl 0) h) (andThen nexts (λ _. andThen (from-low (expression-on 1)) (λ _. passedThen λ t j l.
-          checks _ refl tt (written-plain 2 (x .from) t _ (f .start) (omega (arith, f .sound .ordered, g .later, g .sound .ordered)) l double)))))
-          (λ _. behind (λ _ k s h. on-less (le-refl (x .to)) zero-le h) (passedThen λ t j l. checks _ refl tt (written-plain 1 (x .from) t _ (f .start) (le-trans (f .sound .ordered) j) l single)))))
+          checks _ refl tt (written 2 (x .from) t _ (f .start) (omega (arith, f .sound .ordered, g .later, g .sound .ordered)) l double)))))
+          (λ _. behind (λ _ k s h. on-less (le-refl (x .to)) zero-le h) (passedThen λ t j l. checks _ refl tt (written 1 (x .from) t _ (f .start) (le-trans (f .sound .ordered) j) l single)))))
 
       -- the registers of a bracket, past b
       plusIndex-on : {b c : ℕ} (f r : ℕ) → Triple (Checks n) (On b c (C 0)) (plusIndex f r) (λ o k s. Coded o × On c 0 (C 0) k s)

@@ -1,28 +1,28 @@
 -- The listing's shape, for statements and runs of them.
-use mathlib.Core.Path.{_≡_, refl, sym, ap, ap₂, _∙_}
-use mathlib.Core.Bool.{Bool, true, false, not, _&&_, _||_, true≢false, false≢true}
-use mathlib.Core.List.{List, [], _∷_, _++_, map, append-assoc, append-nil}
-use mathlib.Core.Option.{Option, none, some}
+use mathlib.Core.Path.{_≡_, refl, ap, _∙_}
+use mathlib.Core.Bool.{Bool, true, false, _&&_, _||_}
+use mathlib.Core.List.{List, [], _∷_, _++_, append-nil}
+use mathlib.Core.Option.{some}
 use Prim.Native.Nat.{ℕ, zero, suc, _+_, _*_, _-_, _≤_, _<_, zero-le}
 use native.Mathlib.Omega.{arith}
 use native.Mathlib.Nat.{le-refl, le-trans}
-use lib.Dec.{eqb, leb, ltb}
+use lib.Dec.{eqb, ltb}
 use lib.ListN.{length}
-use borrow.Author.Tests.{le-leb, lt-ltb, ltb-true}
-use Rattle.lexer.specs.Text.{if_then_else_, maybe}
+use borrow.Author.Tests.{le-leb, lt-ltb}
+use Rattle.lexer.specs.Text.{if_then_else_}
 use Rattle.rules.specs.Lexemes.{Kind, Lexeme, nameIn, operationIn}
 use Rattle.names.specs.Names.{directives}
-use Rattle.rules.specs.Records.{Record, ST, LL, LI, LD, LC, LT}
-use Rattle.rules.specs.Reader.{Refusal, at, nowhere, encoding, Answer, done, refused, Reader, Line, after, thence, _>>=_, _>>_, return, write, refuse, refusedAs, arrive, next, ahead, kind, passed, left, refuseHere, isLineEnd}
-use Rattle.rules.specs.Expressions.{expression}
-use Rattle.rules.specs.Operands.{isWord, Operands, operands}
-use Rattle.rules.specs.Statements.{Row, State, over, inLine, firstOf, enter, stepRow, nextRow, lineEnd, skip, skipLines, passing, label, rep, repne, instruction, constant, literals, someData, dataOf, line, content, times, begun, statement}
+use Rattle.rules.specs.Records.{Record, ST, LT}
+use Rattle.rules.specs.Reader.{Refusal, at, Answer, done, refused, Reader, Line, after, thence, _>>=_, _>>_, return, write, arrive, ahead, kind, passed, isLineEnd}
+use Rattle.rules.specs.Operands.{isWord}
+use Rattle.rules.specs.Statements.{Row, State, over, inLine, firstOf, enter, stepRow, nextRow, lineEnd, skip, skipLines, passing, rep, repne, instruction, constant, someData, dataOf, line, content, times, begun, statement}
 use Rattle.rules.proofs.Append.{after-nil}
-use Rattle.rules.specs.WellFormed.{Stack, stack, allow, toLine, complete, spans, given, checked, checkedAll}
+use Rattle.rules.specs.WellFormed.{Stack, stack, allow, toLine, complete, spans, given, checked}
 use Rattle.rules.specs.Patch.{statementFrom}
 use Rattle.rules.proofs.Table.{Proper}
+use Rattle.rules.proofs.Move.{arrived}
 use Rattle.rules.proofs.Hoare.{Run, nil, Post, holds, fails, Triple, bind, andThen, whether, perhaps, refuses, writes, before, behind, known, derive, arrive-post, inLines, askAheadS, askKindS, askPassedS, askLeftS, here-failsS}
-use Rattle.rules.proofs.Shape.{Extra, Sound, Chain, chain-le, chain-low, Checks, taken, On, Facts, facts, between, on-less, on-soon, nexts, span-true, Context, open′, shut, up, to-line, first-context, place-open, expression-on, operands-on, Counted, Data, literals-on, label-on, operation-small}
+use Rattle.rules.proofs.Shape.{Extra, Chain, chain-low, Checks, taken, On, Facts, facts, between, on-less, on-soon, nexts, span-true, open′, shut, to-line, first-context, place-open, expression-on, operands-on, Counted, Data, literals-on, label-on, operation-small}
 
 abbrev pub flat : List Row → List Lexeme
 flat [] = []
@@ -201,21 +201,13 @@ module _ (n hi : ℕ) where
     skips : {s : State} → OnS n hi 0 lo 0 κ κ s → Skips lo κ (done [] tt s)
     broke : {r : Refusal} → Skips lo κ (refused r)
 
-  arrive-skips : {lo : ℕ} {κ : Stack} (x : Lexeme) {p : Answer State (Unit {0})} → Skips lo κ p → Skips lo κ (arrive x p)
-  unfolding arrive
-  arrive-skips {lo} {κ} x {p} h = go (refusedAs (x .kind))
-    where
-      go : (o : Option ℕ) → Skips lo κ (maybe o p (λ m. refused (at m (x .from) (x .to))))
-      go none = h
-      go (some m) = broke
-
   skip-skips : (lo : ℕ) (κ : Stack) (l : Line) (rs : List Row) → On n hi 0 (flat rs) lo 0 κ κ l → Skips lo κ (skip l rs)
   unfolding skip
   skip-skips lo κ l [] h = skips h
   skip-skips lo κ l (r ∷ rs) h = go (isLineEnd (l .here .kind)) (skip-skips lo κ (firstOf r) rs (row-on n hi 0 κ l r rs h))
     where
       go : (o : Bool) → Skips lo κ (skip (firstOf r) rs) → Skips lo κ (if o then (arrive (r .first) (skip (firstOf r) rs)) else (done [] tt (record { line = l; below = r ∷ rs })))
-      go true p = arrive-skips (r .first) p
+      go true p = arrived (Skips lo κ) (r .first) (λ n e. broke) p
       go false p = skips h
 
   -- the records of a statement behind its first

@@ -1,9 +1,8 @@
 -- A listing's bytes as records: what `encode` writes, read back. Document 01, "The listing".
-use mathlib.Core.Bool.{Bool, true, false, _&&_}
-use mathlib.Core.List.{List, [], _∷_, _++_}
+use mathlib.Core.Bool.{_&&_}
+use mathlib.Core.List.{List, [], _∷_}
 use mathlib.Core.Option.{Option, none, some}
 use Prim.Native.Nat.{ℕ, zero, suc, pred, _+_, _*_}
-use Prim.Native.String.{String}
 use lib.Dec.{eqb, leb}
 use lib.ListN.{length, take, drop}
 use Rattle.lexer.specs.Text.{if_then_else_, maybe, bytes, same}

@@ -1,8 +1,7 @@
 -- `evaluate`: the exact sum, difference or product, or the quotient truncated toward zero. Document 01, "Operands and statements".
-use mathlib.Core.Bool.{Bool, true, false}
 use Prim.Native.Nat.{ℕ}
 use lib.Dec.{eqb, ltb}
-use lib.IntN.{ℤ, pos, negsuc, natAbs, _+ℤ_, _-ℤ_, _*ℤ_}
+use lib.IntN.{ℤ, natAbs, _+ℤ_, _-ℤ_, _*ℤ_}
 use lib.Signed.{mag, quotZ}
 use Rattle.lexer.specs.Text.{if_then_else_}
 use Rattle.rules.specs.Reader.{nowhere}

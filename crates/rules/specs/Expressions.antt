@@ -1,13 +1,13 @@
 -- Expressions. Document 01, "Expressions": children are written before parents, and parentheses leave no record.
 use mathlib.Core.Bool.{Bool, true, false}
-use mathlib.Core.List.{List, [], _∷_, _++_}
+use mathlib.Core.List.{List, [], _∷_}
 use mathlib.Core.Option.{Option, none, some}
 use Prim.Native.Nat.{ℕ, zero, suc}
-use lib.Dec.{eqb, ltb}
+use lib.Dec.{ltb}
 use Rattle.lexer.specs.Text.{if_then_else_, maybe, is}
 use Rattle.rules.specs.Lexemes.{Kind, word, number, quoted, mark, newline, blank, comment, invalid, end, bad, Lexeme}
-use Rattle.rules.specs.Records.{Record, VC, VL, VI, VS, PF, IN}
-use Rattle.rules.specs.Reader.{Reader, Line, Refusal, nowhere, _>>=_, _>>_, return, write, refuse, next, ahead, kind, passed, left, refuseHere, isMark, expect, openReader}
+use Rattle.rules.specs.Records.{VC, VL, VI, VS, PF, IN}
+use Rattle.rules.specs.Reader.{Reader, Line, nowhere, _>>=_, _>>_, return, write, refuse, next, ahead, kind, passed, left, refuseHere, isMark, expect, openReader}
 
 -- An operator's level comes from its kind alone: `+ -` bind loosest, `* /` tighter, prefix `+ -` tightest. The operator is given by its
 -- number. Equal levels group to the left: an operator takes to its right only what binds tighter than it.
@@ -62,7 +62,7 @@ primary inner = do
         t ← passed
         write (PF (x .from) t op)
 
--- The infix operators, with their right sides, that stand behind an expression which began at f.
+-- The infix operators of a level and above, with their right sides, that stand behind an expression which began at f; at most n of them.
 unfoldable pub infixes : ℕ → (ℕ → Reader Line (Unit {0})) → ℕ → ℕ → Reader Line (Unit {0})
 infixes zero inner level f = return tt
 infixes (suc n) inner level f = do

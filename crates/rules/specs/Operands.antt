@@ -1,14 +1,13 @@
 -- Operands. Document 01, "Operands and statements".
 use mathlib.Core.Bool.{Bool, true, false, _||_}
-use mathlib.Core.List.{List, [], _∷_}
 use mathlib.Core.Option.{Option, none, some}
 use Prim.Native.Nat.{ℕ, zero, suc, _+_}
-use lib.Dec.{eqb, ltb}
-use Rattle.lexer.specs.Text.{if_then_else_, maybe, is}
-use Rattle.rules.specs.Lexemes.{Kind, word, number, quoted, mark, newline, blank, comment, invalid, end, bad, Lexeme, textOf, nameIn}
+use lib.Dec.{eqb}
+use Rattle.lexer.specs.Text.{if_then_else_, maybe}
+use Rattle.rules.specs.Lexemes.{Kind, word, number, quoted, mark, newline, blank, comment, invalid, end, bad, textOf, nameIn}
 use Rattle.names.specs.Names.{registers, segments, sizes}
-use Rattle.rules.specs.Records.{Record, OR, OS, OI, OF, OD, OX}
-use Rattle.rules.specs.Reader.{Reader, Line, Refusal, at, nowhere, encoding, _>>=_, _>>_, return, write, refuse, attempt, next, ahead, kind, passed, left, refuseHere, isMark, isLineEnd, expect}
+use Rattle.rules.specs.Records.{OR, OS, OI, OF, OD, OX}
+use Rattle.rules.specs.Reader.{Reader, Line, at, encoding, _>>=_, _>>_, return, write, refuse, attempt, next, ahead, kind, passed, left, refuseHere, isMark, isLineEnd, expect}
 use Rattle.rules.specs.Expressions.{expression, openExpressions}
 
 -- An immediate is an expression; `a:b` is far.
@@ -26,6 +25,7 @@ immediateOrFar = do
         t ← passed
         write (OI (x .from) t))
 
+-- The registers that a bracket may begin with, by their numbers.
 abbrev pub bx : ℕ
 bx = 11
 
@@ -64,6 +64,7 @@ plusIndex f r = do
         if isIndex r then (refuse (at 33 f t)) else (return (some (paired r q))))
       else (refuse (encoding f (x .to) r q))
 
+-- The encoding behind the first register.
 unfoldable pub second : ℕ → ℕ → Reader Line ℕ
 second f r = do
   k ← kind
@@ -105,6 +106,7 @@ override = do
     expect ":" 12
     return (suc s)
 
+-- What a bracket may begin with.
 unfoldable pub isWord : Kind → Bool
 isWord k = maybe (textOf k) false (λ w. true)
 
@@ -150,7 +152,8 @@ operand = do
   n ← left
   operandSized (suc n) 0
 
--- The operands of an instruction: how many, and their span.
+-- The operands of an instruction, none, one, or two with a comma between them (11): how many, and their span. With none it is end..end of
+-- the word.
 pub record Operands : Type 0 where
   pub count : ℕ
   pub from : ℕ

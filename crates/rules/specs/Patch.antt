@@ -2,7 +2,7 @@
 use mathlib.Core.Bool.{Bool, true, false, not, _&&_, _||_}
 use mathlib.Core.List.{List, [], _∷_, _++_, map}
 use mathlib.Core.Option.{Option, none, some}
-use Prim.Native.Nat.{ℕ, zero, suc, pred, _+_, _-_}
+use Prim.Native.Nat.{ℕ, pred, _+_, _-_}
 use lib.Dec.{eqb, leb, ltb}
 use lib.ListN.{length, take, drop, getD}
 use Rattle.lexer.specs.Text.{if_then_else_, maybe, is, among, run}
@@ -11,7 +11,7 @@ use Rattle.rules.specs.Lexemes.{Lexeme, tokensFrom}
 use Rattle.rules.specs.Records.{Record, ST, VC, VL, VI, VS, PF, IN, OR, OS, OI, OF, OD, OX, LL, LI, LD, LC, LT, moveRecord, listing}
 use Rattle.rules.specs.Reader.{Refusal, at, nowhere, encoding, isLineEnd}
 use Rattle.rules.specs.Statements.{Outcome, accepted, refusal, fullRead, readFrom}
-use Rattle.rules.specs.Calls.{Result, gives, refuses, unless, tooLong, ascii, inRoom, leaves, openCalls}
+use Rattle.rules.specs.Calls.{Result, refuses, unless, tooLong, ascii, inRoom, leaves, openCalls}
 use Rattle.rules.specs.Decode.{decode, openDecode}
 use Rattle.rules.specs.WellFormed.{wellFormed, openWellFormed}
 

@@ -3,9 +3,8 @@
 use mathlib.Core.Bool.{Bool, true, false}
 use mathlib.Core.List.{List, [], _∷_, _++_}
 use mathlib.Core.Option.{Option, none, some}
-use Prim.Native.Nat.{ℕ, zero, suc}
-use Prim.Native.Char.{Char, code}
-use lib.Dec.{eqb}
+use Prim.Native.Nat.{ℕ}
+use Prim.Native.Char.{Char}
 use lib.ListN.{length}
 use Rattle.lexer.specs.Text.{if_then_else_, maybe, is}
 use Rattle.rules.specs.Lexemes.{Kind, word, number, quoted, mark, newline, blank, comment, invalid, end, bad, Lexeme, openLexemes}
@@ -54,6 +53,7 @@ unfoldable pub _>>=_ : {S A B : Type 0} → Reader S A → (A → Reader S B) �
 unfoldable pub _>>_ : {S A B : Type 0} → Reader S A → Reader S B → Reader S B
 m >> k = m >>= (λ _. k)
 
+-- A value; a record; a refusal.
 unfoldable pub return : {S A : Type 0} → A → Reader S A
 return a s = done [] a s
 
@@ -112,6 +112,7 @@ kind s = done [] (s .here .kind) s
 unfoldable pub passed : Reader Line ℕ
 passed s = done [] (s .last) s
 
+-- How many tokens stand behind it: no loop within a line goes round more often.
 unfoldable pub left : Reader Line ℕ
 left s = done [] (length (s .more)) s
 

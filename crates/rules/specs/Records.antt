@@ -1,7 +1,6 @@
 -- The records of a listing, and their bytes. Document 01, "The listing"; children precede parents, and `f t` is the span.
 use mathlib.Core.List.{List, [], _∷_, _++_}
-use Prim.Native.Nat.{ℕ, zero, suc, _+_, _*_, _/_, _%_}
-use Prim.Native.String.{String}
+use Prim.Native.Nat.{ℕ, _+_, _/_, _%_}
 use lib.ListN.{length}
 use Rattle.lexer.specs.Text.{bytes, openText}
 

@@ -1,7 +1,6 @@
 -- Statements, and the reading of a source. Document 01, "Operands and statements".
 use mathlib.Core.Bool.{Bool, true, false, _||_}
 use mathlib.Core.List.{List, [], _∷_, _++_}
-use mathlib.Core.Option.{Option, none, some}
 use Prim.Native.Nat.{ℕ, zero, suc, _+_}
 use lib.Dec.{eqb, ltb}
 use lib.ListN.{length, take}
@@ -9,7 +8,7 @@ use Rattle.lexer.specs.Text.{if_then_else_, maybe, is}
 use Rattle.rules.specs.Lexemes.{Kind, word, number, quoted, mark, newline, blank, comment, invalid, end, bad, Lexeme, tokensFrom, nameIn, operationIn}
 use Rattle.names.specs.Names.{directives}
 use Rattle.rules.specs.Records.{Record, ST, LL, LI, LD, LC, LT, field, openRecords}
-use Rattle.rules.specs.Reader.{Reader, Answer, done, refused, after, Line, Refusal, at, nowhere, encoding, _>>=_, _>>_, return, write, refuse, arrive, next, ahead, kind, passed, left, refuseHere, isMark, isLineEnd, expect}
+use Rattle.rules.specs.Reader.{Reader, Answer, done, refused, Line, Refusal, at, nowhere, _>>=_, _>>_, return, write, refuse, arrive, next, ahead, kind, passed, left, refuseHere, isMark, isLineEnd}
 use Rattle.rules.specs.Expressions.{expression}
 use Rattle.rules.specs.Operands.{operands, isWord, openOperands}
 
@@ -46,6 +45,7 @@ firstOf r = record { last = r .first .from; here = r .first; more = r .more }
 unfoldable pub enter : Row → List Row → State
 enter r rs = record { line = firstOf r; below = rs }
 
+-- To the next row, if there is one.
 unfoldable pub stepRow : List Row → Reader State (Unit {0})
 stepRow [] s = done [] tt s
 stepRow (r ∷ rs) s = arrive (r .first) (done [] tt (enter r rs))
@@ -138,6 +138,7 @@ dataOf x width = do
   ds ← inLine (literals (suc n) width)
   someData x ds
 
+-- What a reading comes to: the records, or the first refusal.
 pub data Outcome : Type 0 where
   accepted : List Record → Outcome
   refusal : Refusal → Outcome
@@ -148,7 +149,8 @@ outcome (refused r) = refusal r
 
 -- The operations are those of a table.
 module _ (table : List ℕ) where
-  -- A statement whose first token is ahead. `times` is the reader for the word times.
+  -- A statement whose first token is ahead; `times` reads one that begins with that word. A word that is neither an operation nor a directive
+  -- becomes a label; without a word it is 20.
   unfoldable pub line : Reader State (Unit {0}) → Reader State (Unit {0})
   line times = do
     x ← inLine ahead
@@ -158,21 +160,22 @@ module _ (table : List ℕ) where
         λ n. if eqb n 0 then (passing (constant x)) else if ltb n 3 then (passing (dataOf x n)) else times)
         λ op. passing (instruction x op)
 
-  -- The content of a `times`, whose word was x.
+  -- The content of a `times`, whose word was x; 34, at that word, where there is none.
   unfoldable pub content : Reader State (Unit {0}) → Lexeme → Reader State (Unit {0})
   content times x = do
     k ← inLine kind
     if isLineEnd k then (refuse (at 34 (x .from) (x .to))) else (line times)
     write LT
 
-  -- `times`, where n more of them may stand within one another.
+  -- `times` takes an expression and a content statement, which may stand on a later line, and may itself be a `times`; n more of them may
+  -- stand within one another, and 5 comes on the token ahead.
   unfoldable pub times : ℕ → Reader State (Unit {0})
   times zero = inLine (refuseHere 5)
   times (suc n) = do
     x ← inLine ahead
     passing (inLine expression >> (skipLines >> content (times n) x))
 
-  -- A statement, with its first token's place, or the answer that none is left.
+  -- A statement, ST first, or the answer that none is left. A content may itself be a `times`, up to 16 deep.
   unfoldable pub begun : Reader State Bool
   begun = do
     x ← inLine ahead
@@ -181,6 +184,7 @@ module _ (table : List ℕ) where
   unfoldable pub statement : Reader State Bool
   statement = skipLines >> begun
 
+  -- Statements, at most n, until none is left or one is refused.
   unfoldable pub statements : ℕ → Reader State (Unit {0})
   statements zero = return tt
   statements (suc n) = do

@@ -1,0 +1,18 @@
+-- The code is the definition, by calls.
+use borrow.Author.Needs.{needs}
+use Rattle.lexer.specs.Text.{isWordPart}
+use Rattle.lexer.proofs.text.is_identifier.Statement.{statement}
+use Rattle.lexer.proofs.text.is_identifier.Tie as tie
+
+is-identifier-first-requires : tie.Need-is-identifier-first-requires
+is-identifier-first-requires c κs = search needs
+
+is-decimal-digit-requires : tie.Need-is-decimal-digit-requires
+is-decimal-digit-requires c κs = search needs
+
+returns : tie.Need-returns
+unfolding isWordPart
+returns c = rw (c .before .is-identifier-first .ensures, c .is-decimal-digit .ensures)
+
+pub is-identifier-spec : {M : Type 1} → statement M
+is-identifier-spec = tie.close (tie.spec is-identifier-first-requires is-decimal-digit-requires returns)

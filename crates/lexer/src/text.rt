@@ -1,0 +1,157 @@
+// Letters and numbers: classes of bytes, runs of a class, and the number that digits write.
+ghost use mathlib.Core.Path.{_≡_};
+ghost use mathlib.Core.Bool.{_||_};
+ghost use Prim.Native.Nat.{ℕ, _+_, _-_, _≤_, _<_};
+ghost use lib.Dec.{eqb};
+ghost use lib.ListN.{length, take, drop, getD};
+ghost use Rattle.lexer.specs.Text.{within, isBlank, isDigit, isHexDigit, isLetter, isWordPart, digit, run};
+ghost use Rattle.lexer.specs.Runs.{belongs, valuedFrom};
+
+pub fn is_whitespace(c: u8) -> bool
+    ensures { λ r. ⌜ r ≡ isBlank c ⌝ }
+{
+    (c == b' ') | (c == b'\t') | (c == b'\r')
+}
+
+pub fn is_binary_digit(c: u8) -> bool
+    ensures { λ r. ⌜ r ≡ within "0" "1" c ⌝ }
+{
+    (b'0' <= c) & (c <= b'1')
+}
+
+pub fn is_octal_digit(c: u8) -> bool
+    ensures { λ r. ⌜ r ≡ within "0" "7" c ⌝ }
+{
+    (b'0' <= c) & (c <= b'7')
+}
+
+pub fn is_decimal_digit(c: u8) -> bool
+    ensures { λ r. ⌜ r ≡ isDigit c ⌝ }
+{
+    (b'0' <= c) & (c <= b'9')
+}
+
+pub fn is_hexadecimal_digit(c: u8) -> bool
+    ensures { λ r. ⌜ r ≡ isHexDigit c ⌝ }
+{
+    ((b'0' <= c) & (c <= b'9')) | ((b'a' <= c) & (c <= b'f')) | ((b'A' <= c) & (c <= b'F'))
+}
+
+pub fn is_identifier_first(c: u8) -> bool
+    ensures { λ r. ⌜ r ≡ isLetter c ⌝ }
+{
+    ((b'a' <= c) & (c <= b'z')) | ((b'A' <= c) & (c <= b'Z')) | (c == b'_')
+}
+
+pub fn is_identifier(c: u8) -> bool
+    ensures { λ r. ⌜ r ≡ isWordPart c ⌝ }
+{
+    is_identifier_first(c) | is_decimal_digit(c)
+}
+
+// A letter, small or capital.
+pub fn is_letter(c: u8, small: u8, capital: u8) -> bool
+    ensures { λ r. ⌜ r ≡ (eqb c small || eqb c capital) ⌝ }
+{
+    (c == small) | (c == capital)
+}
+
+// The byte at a place, or 0 where there is none.
+pub fn char_at(source: &[u8], index: usize) -> u8
+    ensures { λ r. ⌜ r ≡ getD (now (source .entry)) index 0 ⌝ }
+{
+    if index < source.len() { source[index] } else { 0 }
+}
+
+// The classes that runs are made of. `Quoted` is what stands between quotes, `Comment` what stands behind a semicolon.
+pub enum Class {
+    Whitespace,
+    Identifier,
+    UpToOne,
+    Binary,
+    Octal,
+    Decimal,
+    Hexadecimal,
+    Quoted,
+    Comment,
+}
+
+pub fn in_class(class: Class, c: u8) -> bool
+    ensures { λ r. ⌜ r ≡ belongs class c ⌝ }
+{
+    match class {
+        Class::Whitespace => is_whitespace(c),
+        Class::Identifier => is_identifier(c),
+        Class::UpToOne => c <= b'1',
+        Class::Binary => is_binary_digit(c),
+        Class::Octal => is_octal_digit(c),
+        Class::Decimal => is_decimal_digit(c),
+        Class::Hexadecimal => is_hexadecimal_digit(c),
+        Class::Quoted => !((c == b'\'') | (c == b'\n')),
+        Class::Comment => c != b'\n',
+    }
+}
+
+// The place behind the run of a class that begins at `from`.
+pub fn run_end(source: &[u8], from: usize, class: Class) -> usize
+    ensures { λ r. ⌜ r ≡ from + run (belongs class) (drop from (now (source .entry))) ⌝ }
+{
+    let mut i = from;
+    while i < source.len() {
+        if in_class(class, source[i]) {
+            i += 1;
+        } else {
+            return i;
+        }
+    }
+    i
+}
+
+// What a digit is worth.
+pub fn digit_value(c: u8) -> u64
+    ensures { λ r. ⌜ r ≡ digit c ⌝ }
+{
+    if c < b'0' {
+        return 10;
+    }
+    if c <= b'9' {
+        return (c - b'0') as u64;
+    }
+    if c < b'A' {
+        return 10;
+    }
+    if c <= b'Z' {
+        return (c - b'A') as u64 + 10;
+    }
+    if c < b'a' {
+        return 10;
+    }
+    (c - b'a') as u64 + 10
+}
+
+// The number that digits write: one that an i32 holds, or none.
+pub enum Value {
+    Fits(u32),
+    Beyond,
+}
+
+// The number written from `from` to before `to`.
+pub fn from_radix(source: &[u8], from: usize, to: usize, base: u64) -> Value
+    requires { ⌜ (from ≤ to) × (to ≤ length (now source)) × (1 ≤ base) × (base ≤ 16) ⌝ }
+    ensures { λ r. ⌜ r ≡ valuedFrom 0 base (take (to - from) (drop from (now (source .entry)))) ⌝ }
+{
+    let mut v: u64 = 0;
+    let mut i = from;
+    while i < to {
+        let d = digit_value(source[i]);
+        if base <= d {
+            return Value::Beyond;
+        }
+        v = v * base + d;
+        if 2147483647 < v {
+            return Value::Beyond;
+        }
+        i += 1;
+    }
+    Value::Fits(v as u32)
+}

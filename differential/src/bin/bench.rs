@@ -1,0 +1,137 @@
+//! Speed, ours beside the original's, on the same inputs in the same run: `cargo run --release --bin bench [ROUNDS]`.
+//! The two take turns; the best round of each counts, and the median is shown beside it.
+#[cfg(not(all(library, original)))]
+fn main() {
+    panic!("needs the library (`rt staticlib exports`) and the original's sources (MRC_SOURCE)");
+}
+
+#[cfg(all(library, original))]
+fn main() {
+    use differential::{ours, sources};
+    use mrc_compiler::ast::{DataSize, Register, Segment};
+    use mrc_compiler::lexer::{Cursor, Token};
+    use mrc_compiler::operations::Operation;
+    use std::hint::black_box;
+    use std::str::FromStr;
+
+    let rounds = std::env::args().nth(1).map_or(200, |word| word.parse().unwrap());
+    println!("best of {rounds} rounds, ours and the original's in turn (median in brackets)\n");
+    for (title, text) in [("marker lines", sources::marker_lines(65536)), ("code lines", sources::code_lines(65536))] {
+        let by_ours = || {
+            let (mut place, mut count) = (0, 0u64);
+            loop {
+                let found = ours::token(text.as_bytes(), place);
+                count += 1;
+                if found.kind == 0 {
+                    return black_box(count);
+                }
+                place += found.length;
+            }
+        };
+        let by_original = || {
+            let (mut cursor, mut count) = (Cursor::new(&text), 0u64);
+            loop {
+                count += 1;
+                if let Token::EndOfFile(_) = black_box(cursor.next_token()) {
+                    return black_box(count);
+                }
+            }
+        };
+        let tokens = by_ours();
+        assert_eq!(tokens, by_original());
+        let (ours, original) = in_turn(rounds, by_ours, by_original);
+        println!("{title}: {} bytes, {tokens} tokens", text.len());
+        for (who, time) in [("ours", ours), ("original", original)] {
+            println!(
+                "  {who:9} {:6.1} million tokens/s, {:6.1} MB/s  (median {:6.1} MB/s)",
+                tokens as f64 / time.best / 1e6,
+                text.len() as f64 / time.best / 1e6,
+                text.len() as f64 / time.median / 1e6
+            );
+        }
+
+        let words: Vec<&str> = words_of(&text);
+        // The original asks for a register, a segment and a size in turn, each with its own lower-case copy.
+        let name = |word: &str| {
+            if let Ok(register) = Register::from_str(word) {
+                register.encoding()
+            } else if let Ok(segment) = Segment::from_str(word) {
+                segment.encoding()
+            } else {
+                DataSize::from_str(word).map_or(255, |size| size as u8)
+            }
+        };
+        let (ours_operation, original_operation) = in_turn(
+            rounds,
+            || each(&words, |word| ours::operation(word.as_bytes())),
+            || each(&words, Operation::from_str),
+        );
+        let (ours_name, original_name) = in_turn(
+            rounds,
+            || each(&words, |word| ours::name(word.as_bytes())),
+            || each(&words, name),
+        );
+        println!("  names: {} words", words.len());
+        for (who, time) in [
+            ("ours, operation (makes the table)", ours_operation),
+            ("original, operation", original_operation),
+            ("ours, register, segment or size", ours_name),
+            ("original, register, segment or size", original_name),
+        ] {
+            let share = |seconds: f64| seconds / words.len() as f64 * 1e9;
+            println!("    {who:36} {:6.1} ns a word  (median {:6.1})", share(time.best), share(time.median));
+        }
+        println!();
+    }
+}
+
+/// Looks every word up.
+#[cfg(all(library, original))]
+fn each<T>(words: &[&str], look: impl Fn(&str) -> T) {
+    for word in words {
+        std::hint::black_box(look(word));
+    }
+}
+
+#[cfg(all(library, original))]
+struct Time {
+    best: f64,
+    median: f64,
+}
+
+/// Times both in seconds, one round of each in turn.
+#[cfg(all(library, original))]
+fn in_turn<A, B>(rounds: usize, a: impl Fn() -> A, b: impl Fn() -> B) -> (Time, Time) {
+    let (mut of_a, mut of_b) = (Vec::new(), Vec::new());
+    for _ in 0..rounds {
+        of_a.push(timed(&a));
+        of_b.push(timed(&b));
+    }
+    let time = |mut list: Vec<f64>| {
+        list.sort_by(f64::total_cmp);
+        Time { best: list[0], median: list[list.len() / 2] }
+    };
+    (time(of_a), time(of_b))
+}
+
+#[cfg(all(library, original))]
+fn timed<T>(f: impl Fn() -> T) -> f64 {
+    let begun = std::time::Instant::now();
+    std::hint::black_box(f());
+    begun.elapsed().as_secs_f64()
+}
+
+/// The words of a text, as the lexer finds them.
+#[cfg(all(library, original))]
+fn words_of(text: &str) -> Vec<&str> {
+    let mut cursor = mrc_compiler::lexer::Cursor::new(text);
+    let mut words = Vec::new();
+    loop {
+        let from = cursor.pos();
+        match cursor.next_token() {
+            mrc_compiler::lexer::Token::EndOfFile(_) => return words,
+            mrc_compiler::lexer::Token::Identifier(length) => words.push(&text[from..from + length]),
+            _ => {}
+        }
+    }
+}

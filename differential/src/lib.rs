@@ -1,0 +1,20 @@
+//! The original Rust and the proved library, side by side.
+
+pub mod answer;
+pub mod found;
+#[cfg(original)]
+pub mod limits;
+#[cfg(original)]
+pub mod original;
+#[cfg(library)]
+pub mod ours;
+#[cfg(original)]
+pub mod patches;
+#[cfg(original)]
+pub mod reads;
+pub mod recorded;
+pub mod sources;
+#[cfg(original)]
+pub mod tokens;
+#[cfg(original)]
+pub mod words;

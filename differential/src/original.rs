@@ -1,0 +1,383 @@
+//! What the original says of a source, in the form of our answers: its trees as a listing, its errors as refusals, its panics
+//! as 30 to 34. The limits 3 and 5 are not the original's: see `limits`.
+use crate::answer::{Answer, Listing, Refusal};
+use crate::found::Found;
+use mrc_compiler::ast::{self, Expression, Line, Operand, Operands, Register, Value};
+use mrc_compiler::lexer::{Cursor, LiteralKind, PunctuationKind, Token};
+use mrc_compiler::parser::{Parser, ParserError};
+use std::cell::Cell;
+use std::panic::{catch_unwind, AssertUnwindSafe};
+use std::sync::Once;
+
+thread_local!(static EXPECTED: Cell<bool> = const { Cell::new(false) });
+
+/// Runs `f`; a panic in it is not reported but given back as its message.
+pub fn caught<T>(f: impl FnOnce() -> T) -> Result<T, String> {
+    static HOOK: Once = Once::new();
+    HOOK.call_once(|| {
+        let usual = std::panic::take_hook();
+        std::panic::set_hook(Box::new(move |info| {
+            if !EXPECTED.get() {
+                usual(info)
+            }
+        }));
+    });
+    let outer = EXPECTED.replace(true);
+    let result = catch_unwind(AssertUnwindSafe(f));
+    EXPECTED.set(outer);
+    result.map_err(|payload| match payload.downcast::<String>() {
+        Ok(message) => *message,
+        Err(payload) => payload.downcast_ref::<&str>().unwrap_or(&"").to_string(),
+    })
+}
+
+/// The number that stands for a panic of the original.
+fn number_of_panic(message: &str) -> u8 {
+    if message.contains("The requested base in lower than the detected base") {
+        30
+    } else if message.contains("ParseIntError") {
+        31
+    } else if message.contains("`Option::unwrap()` on a `None` value") {
+        32
+    } else if message.contains("unreachable") {
+        33
+    } else if message == "not yet implemented" {
+        34
+    } else {
+        panic!("the original panicked for a reason that no rule names: {message}")
+    }
+}
+
+/// A token that the parser sees, with its place; blanks and comments are left out.
+#[derive(Clone, Debug)]
+pub struct Placed {
+    pub token: Token,
+    pub from: usize,
+    pub to: usize,
+}
+
+/// The tokens up to the end of the source or the first refused number, and that one's number and place.
+pub fn tokens(source: &str) -> (Vec<Placed>, Option<(u8, usize)>) {
+    let mut cursor = Cursor::new(source);
+    let mut seen = Vec::new();
+    loop {
+        let from = cursor.pos();
+        match caught(|| cursor.next_token()) {
+            Err(message) => return (seen, Some((number_of_panic(&message), from))),
+            Ok(Token::EndOfFile(_)) => return (seen, None),
+            Ok(Token::Whitespace(_) | Token::Comment(_)) => {}
+            Ok(token) => seen.push(Placed { to: from + token.len(), token, from }),
+        }
+    }
+}
+
+/// The end of the refused number that begins at `from`: the whole run for 30, prefix and digits for 31.
+pub fn refused_number_end(source: &[u8], number: u8, from: usize) -> usize {
+    let (start, base) = match (number, source.get(from + 1)) {
+        (31, Some(b'b')) => (from + 2, 2),
+        (31, Some(b'o')) => (from + 2, 8),
+        (31, Some(b'd')) => (from + 2, 10),
+        (31, _) => (from + 2, 16),
+        _ => (from, 16),
+    };
+    start + source[start..].iter().take_while(|b| (**b as char).is_digit(base)).count()
+}
+
+fn number_of_register(register: &Register) -> u8 {
+    match register {
+        Register::Byte(r) => r.encoding(),
+        Register::Word(r) => 8 + r.encoding(),
+    }
+}
+
+fn refusal_of(error: &ParserError) -> Refusal {
+    let span = error.span();
+    let at = |number| Refusal::at(number, span.start, span.end);
+    match error {
+        ParserError::Expected(_, expected, _) => at(match expected.as_str() {
+            "new line" => 10,
+            "comma" => 11,
+            "Colon (:) required after segment override." => 12,
+            "closing bracket for memory address" => 13,
+            "literal expected for data definition" => 15,
+            "Unterminated string literal" => 16,
+            "Only character literals allowed." => 17,
+            text if text.starts_with("closing parenthesis") => 14,
+            text => panic!("the original expects {text}, which no rule names"),
+        }),
+        ParserError::InstructionExpected(..) => at(20),
+        ParserError::OperandExpected(..) => at(21),
+        ParserError::InvalidPrefixOperator(..) => at(22),
+        ParserError::DataDefinitionWithoutData(..) => at(23),
+        ParserError::SegmentOrAddressExpected(..) => at(24),
+        ParserError::InvalidIndirectEncoding(_, first, second) => Refusal {
+            first: number_of_register(first),
+            second: second.as_ref().map_or(255, number_of_register),
+            ..at(25)
+        },
+        ParserError::UnterminatedStringLiteral(..) => at(26),
+        ParserError::SecondOperandExpected(..) => panic!("an error that the original never gives"),
+    }
+}
+
+fn put_expression(out: &mut Listing, expression: &Expression) {
+    let [f, t] = out.span(expression.span());
+    match expression {
+        Expression::PrefixOperator(_, operator, right) => {
+            put_expression(out, right);
+            out.record("PF", &[f, t, *operator as u32]);
+        }
+        Expression::InfixOperator(_, operator, left, right) => {
+            put_expression(out, left);
+            put_expression(out, right);
+            out.record("IN", &[f, t, *operator as u32]);
+        }
+        Expression::Value(_, Value::Constant(value)) => out.record("VC", &[f, t, *value as u32]),
+        Expression::Value(_, Value::Label(_)) => out.record("VL", &[f, t]),
+        Expression::Value(_, Value::InstructionStart) => out.record("VI", &[f, t]),
+        Expression::Value(_, Value::SectionStart) => out.record("VS", &[f, t]),
+    }
+}
+
+fn put_operand(out: &mut Listing, operand: &Operand) {
+    let [f, t] = out.span(operand.span());
+    let size_of = |size: &Option<ast::DataSize>| size.map_or(0, |size| 1 + size as u32);
+    let segment_of = |segment: &Option<ast::Segment>| segment.map_or(0, |segment| 1 + segment.encoding() as u32);
+    match operand {
+        Operand::Immediate(_, expression) => {
+            put_expression(out, expression);
+            out.record("OI", &[f, t]);
+        }
+        Operand::Direct(_, expression, size, segment) => {
+            put_expression(out, expression);
+            out.record("OD", &[f, t, size_of(size), segment_of(segment)]);
+        }
+        Operand::Indirect(_, encoding, displacement, size, segment) => {
+            displacement.iter().for_each(|expression| put_expression(out, expression));
+            let has = displacement.is_some() as u32;
+            out.record("OX", &[f, t, encoding.encoding() as u32, has, size_of(size), segment_of(segment)]);
+        }
+        // The original holds the offset first; the source has the segment first.
+        Operand::Far(_, offset, segment) => {
+            put_expression(out, segment);
+            put_expression(out, offset);
+            out.record("OF", &[f, t]);
+        }
+        Operand::Register(_, register) => out.record("OR", &[f, t, number_of_register(register) as u32]),
+        Operand::Segment(_, segment) => out.record("OS", &[f, t, segment.encoding() as u32]),
+    }
+}
+
+fn put_line(out: &mut Listing, line: &Line) {
+    let [f, t] = out.span(line.span());
+    match line {
+        Line::Label(_) => out.record("LL", &[f, t]),
+        Line::Instruction(instruction) => {
+            let count = match &instruction.operands {
+                Operands::None(_) => 0,
+                Operands::Destination(_, destination) => {
+                    put_operand(out, destination);
+                    1
+                }
+                Operands::DestinationAndSource(_, destination, source) => {
+                    put_operand(out, destination);
+                    put_operand(out, source);
+                    2
+                }
+            };
+            let [from, to] = out.span(instruction.operands.span());
+            out.record("LI", &[f, t, instruction.operation as u32, count, from, to]);
+        }
+        Line::Data(_, bytes) => {
+            out.record("LD", &[f, t, bytes.len() as u32]);
+            out.bytes.extend_from_slice(bytes);
+        }
+        Line::Constant(_, expression) => {
+            put_expression(out, expression);
+            out.record("LC", &[f, t]);
+        }
+        Line::Times(_, count, content) => {
+            put_expression(out, count);
+            put_line(out, content);
+            out.record("LT", &[0, 0]);
+        }
+    }
+}
+
+/// The `times` word whose count is this expression: the name before it, parentheses apart.
+fn times_before(seen: &[Placed], count: &Expression) -> usize {
+    let open = Token::Punctuation(1, PunctuationKind::OpenParenthesis);
+    let before = seen.partition_point(|placed| placed.from < count.span().start);
+    let word = seen[..before].iter().rposition(|placed| placed.token != open).unwrap();
+    assert!(matches!(seen[word].token, Token::Identifier(_)));
+    word
+}
+
+/// Where a statement begins. The original gives `times` no span.
+fn place_of(seen: &[Placed], line: &Line) -> usize {
+    match line {
+        Line::Times(_, count, _) => seen[times_before(seen, count)].from,
+        _ => line.span().start,
+    }
+}
+
+/// How much of a source is read.
+#[derive(Clone, Copy, PartialEq)]
+enum Part {
+    Whole,
+    OneStatement,
+}
+
+/// The original, run over a source: Err(message) where it panicked.
+fn run(source: &str, part: Part) -> Result<Result<Vec<Line>, ParserError>, String> {
+    caught(|| {
+        let mut parser = Parser::new(source);
+        let mut lines = Vec::new();
+        while let Some(line) = parser.parse_line()? {
+            lines.push(line);
+            if part == Part::OneStatement {
+                break;
+            }
+        }
+        Ok(lines)
+    })
+}
+
+/// The place of a panic, found from outside: 30 and 31 are at the first refused number; 32 and 33 at the shortest run of
+/// tokens that panics so; 34 at the innermost `times` once a content is put behind the source.
+fn span_of_panic(source: &str, part: Part, number: u8) -> (usize, usize) {
+    let (seen, refused) = tokens(source);
+    if let 30 | 31 = number {
+        let (found, from) = refused.unwrap();
+        assert_eq!(found, number);
+        return (from, refused_number_end(source.as_bytes(), number, from));
+    }
+    if number == 34 {
+        let lines = run(&format!("{source}\nx"), part).unwrap().unwrap();
+        let mut innermost = lines.last().unwrap();
+        loop {
+            let Line::Times(_, count, content) = innermost else { panic!("no `times` at the end") };
+            match &**content {
+                Line::Times(..) => innermost = content,
+                _ => {
+                    let word = times_before(&seen, count);
+                    return (seen[word].from, seen[word].to);
+                }
+            }
+        }
+    }
+    // The shorter a run of tokens, the less is read: what panics at some length panics at every longer one.
+    let panics_so = |end: usize| run(&source[..end], part).is_err_and(|message| number_of_panic(&message) == number);
+    let (mut without, mut with) = (0, seen.len());
+    while without + 1 < with {
+        let middle = (without + with) / 2;
+        if panics_so(seen[middle - 1].to) {
+            with = middle;
+        } else {
+            without = middle;
+        }
+    }
+    let last = with - 1; // the `]`, or the second register
+    let first = match number {
+        32 => last - 3,
+        _ => last - 2,
+    };
+    (seen[first].from, seen[last].to)
+}
+
+/// What the original makes of the part of a source from a place on; places count from the source's first byte.
+fn read_part(source: &str, place: usize, part: Part) -> Answer {
+    let rest = &source[place..];
+    let moved = |r: Refusal| match r.number {
+        22 => r, // it has no place
+        _ => Refusal { from: r.from + place, to: r.to + place, ..r },
+    };
+    match run(rest, part) {
+        Ok(Ok(lines)) => {
+            let times = lines.iter().any(|line| matches!(line, Line::Times(..)));
+            let seen = if times { tokens(rest).0 } else { Vec::new() };
+            let mut listing = Listing { bytes: Vec::new(), base: place };
+            for line in &lines {
+                listing.record("ST", &[(place + place_of(&seen, line)) as u32]);
+                put_line(&mut listing, line);
+            }
+            Ok(listing.bytes)
+        }
+        Ok(Err(error)) => Err(moved(refusal_of(&error))),
+        Err(message) => {
+            let number = number_of_panic(&message);
+            let (from, to) = span_of_panic(rest, part, number);
+            Err(moved(Refusal::at(number, from, to)))
+        }
+    }
+}
+
+/// The source as the original takes it. Those beyond 65,536 bytes (1) or with a byte above 127 (2) are not the original's.
+pub fn lent(source: &[u8]) -> Result<&str, Refusal> {
+    if source.len() > 65536 {
+        return Err(Refusal::at(1, 0, 0));
+    }
+    match source.iter().position(|b| *b > 127) {
+        Some(at) => Err(Refusal::at(2, at, at + 1)),
+        None => Ok(std::str::from_utf8(source).unwrap()),
+    }
+}
+
+/// The full read as the original does it.
+pub fn read(source: &[u8]) -> Answer {
+    read_part(lent(source)?, 0, Part::Whole)
+}
+
+/// The records of the statement at a place, as the original would read it there; empty where none is left.
+pub fn read_statement(source: &[u8], place: usize) -> Answer {
+    if place > source.len() {
+        return Err(Refusal::at(42, 0, 0));
+    }
+    read_part(lent(source)?, place, Part::OneStatement)
+}
+
+/// The original's token at a place.
+pub fn token_at(source: &str, place: usize) -> Found {
+    match caught(|| Cursor::new(&source[place..]).next_token()) {
+        Ok(token) => {
+            let (kind, value) = kind_of(&token);
+            Found { kind, length: token.len(), value }
+        }
+        Err(message) => {
+            let kind = number_of_panic(&message);
+            Found { kind, length: refused_number_end(source.as_bytes(), kind, place) - place, value: 0 }
+        }
+    }
+}
+
+/// The kind byte and the value of a token: a punctuation is its own character.
+pub fn kind_of(token: &Token) -> (u8, u32) {
+    match token {
+        Token::Whitespace(_) => (32, 0),
+        Token::Identifier(_) => (97, 0),
+        Token::Literal(_, LiteralKind::Number(value)) => (48, *value as u32),
+        Token::Literal(_, LiteralKind::String(true)) => (39, 0),
+        Token::Literal(_, LiteralKind::String(false)) => (34, 0),
+        Token::Comment(_) => (59, 0),
+        Token::NewLine(_) => (10, 0),
+        Token::EndOfFile(_) => (0, 0),
+        Token::Invalid(_, character) => (33, *character as u32),
+        Token::Punctuation(_, punctuation) => {
+            let character = match punctuation {
+                PunctuationKind::CloseBracket => b']',
+                PunctuationKind::CloseParenthesis => b')',
+                PunctuationKind::Colon => b':',
+                PunctuationKind::Comma => b',',
+                PunctuationKind::Dollar => b'$',
+                PunctuationKind::Dot => b'.',
+                PunctuationKind::ForwardSlash => b'/',
+                PunctuationKind::Minus => b'-',
+                PunctuationKind::OpenBracket => b'[',
+                PunctuationKind::OpenParenthesis => b'(',
+                PunctuationKind::Plus => b'+',
+                PunctuationKind::Star => b'*',
+            };
+            (character, 0)
+        }
+    }
+}

@@ -1,0 +1,103 @@
+//! Recorded answers of the original, for where it is not there: a line for each source, its text escaped, a tab, the answer.
+use crate::answer::{shown, Answer};
+use crate::found::{Found, Named};
+use crate::sources::{self, Random};
+
+pub fn escaped(text: &[u8]) -> String {
+    text.escape_ascii().to_string()
+}
+
+/// The bytes that `escaped` wrote.
+pub fn unescaped(text: &str) -> Vec<u8> {
+    let (mut bytes, mut rest) = (Vec::new(), text.bytes());
+    while let Some(b) = rest.next() {
+        bytes.push(match b {
+            b'\\' => match rest.next().unwrap() {
+                b'n' => b'\n',
+                b'r' => b'\r',
+                b't' => b'\t',
+                b'x' => {
+                    let mut digit = || (rest.next().unwrap() as char).to_digit(16).unwrap() as u8;
+                    digit() * 16 + digit()
+                }
+                other => other,
+            },
+            b => b,
+        });
+    }
+    bytes
+}
+
+/// The sources and answers of a recorded list.
+pub fn entries(list: &str) -> impl Iterator<Item = (Vec<u8>, &str)> {
+    list.lines().map(|line| {
+        let (source, answer) = line.split_once('\t').unwrap();
+        (unescaped(source), answer)
+    })
+}
+
+pub const TOKENS: &str = include_str!("../recorded/tokens.txt");
+pub const WORDS: &str = include_str!("../recorded/words.txt");
+pub const READS: &str = include_str!("../recorded/reads.txt");
+
+/// An answer on one line: its records, or its refusal, as the program `listing` prints them.
+pub fn read_of(answer: &Answer) -> String {
+    shown(answer).trim_end().replace('\n', "; ")
+}
+
+/// All tokens of a source, each `kind:length:value`, up to the end of file or a refused number.
+pub fn tokens_of(source: &[u8], read: &mut impl FnMut(&[u8], usize) -> Found) -> String {
+    let (mut place, mut list) = (0, Vec::new());
+    loop {
+        let Found { kind, length, value } = read(source, place);
+        list.push(format!("{kind}:{length}:{value}"));
+        place += length;
+        if let 0 | 30 | 31 = kind {
+            return list.join(" ");
+        }
+    }
+}
+
+pub fn names_of(word: &[u8], look: &mut impl FnMut(&[u8]) -> Named) -> String {
+    let Named { operation, name, directive } = look(word);
+    format!("{operation} {name} {directive}")
+}
+
+/// What is recorded of tokens: telling pairs, numbers at their edges, lines.
+pub fn token_sources() -> Vec<Vec<u8>> {
+    let mut list = Vec::new();
+    sources::each(&sources::TELLING_BYTES, 2, &mut |source| list.push(source.to_vec()));
+    for digits in ["", "0", "1", "7", "8", "9", "af", "2147483647", "2147483648", "7fffffff", "80000000", "17777777777", "20000000000"] {
+        for prefix in ["0", "0b", "0o", "0d", "0x", "1", "9"] {
+            for suffix in ["", "b", "d", "o", "h", "bh", "D", "H", "g"] {
+                list.push(format!("{prefix}{digits}{suffix}").into_bytes());
+            }
+        }
+    }
+    let mut random = Random::new(3);
+    for _ in 0..300 {
+        let source = sources::grammar(&mut random);
+        list.push(sources::changed(&mut random, &source));
+        list.push(source);
+    }
+    list
+}
+
+/// What is recorded of full reads: every cause, with nothing and with a refused number behind it, at the limits too; sources by
+/// the grammar; the shipped sample.
+pub fn read_sources() -> Vec<Vec<u8>> {
+    let mut list = vec![include_bytes!("../../samples/welds.asm").to_vec()];
+    for (i, cause) in sources::causes().into_iter().enumerate() {
+        // Of the many at the limits, some.
+        if cause.len() < 24 || i % 7 == 0 {
+            list.push(format!("k equ 2\n{cause}\n{}", sources::REFUSED[i % 4]).into_bytes());
+            list.push(format!("{cause} {}", sources::REFUSED[i / 4 % 4]).into_bytes());
+            list.push(cause.into_bytes());
+        }
+    }
+    let mut random = Random::new(5);
+    for _ in 0..300 {
+        list.push(sources::grammar(&mut random));
+    }
+    list
+}

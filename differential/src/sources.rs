@@ -1,0 +1,416 @@
+//! Sources to compare on: all short ones over telling pieces, random ones by the grammar, changed ones, noise, and sources at
+//! the limits.
+
+/// Every source of the usual comparison of full reads: about a million, and more by `scale`.
+pub fn all(scale: u64, f: &mut impl FnMut(&[u8])) {
+    let extra = (scale > 1) as usize;
+    each(&TELLING_BYTES, 3 + extra, f);
+    each(&TELLING_PIECES, 3 + extra, f);
+    let mut text = Vec::new();
+    for head in ["mov ", "mov ax,", "equ "] {
+        each(&OPERAND_PIECES, 4 + extra, &mut |rest| {
+            text.clear();
+            text.extend_from_slice(head.as_bytes());
+            text.extend_from_slice(rest);
+            f(&text)
+        });
+    }
+    behind_causes(f);
+    long(f);
+    let mut random = Random::new(1);
+    for _ in 0..200_000 * scale {
+        let source = grammar(&mut random);
+        f(&source);
+        f(&changed(&mut random, &source));
+    }
+    for _ in 0..100_000 * scale {
+        f(&noise(&mut random, 40));
+    }
+}
+
+/// xorshift64*: the same sources in every run.
+#[derive(Clone)]
+pub struct Random(u64);
+
+impl Random {
+    pub fn new(seed: u64) -> Self {
+        Self(seed.wrapping_mul(0x9E37_79B9_7F4A_7C15) | 1)
+    }
+
+    pub fn bits(&mut self) -> u64 {
+        self.0 ^= self.0 >> 12;
+        self.0 ^= self.0 << 25;
+        self.0 ^= self.0 >> 27;
+        self.0.wrapping_mul(0x2545_F491_4F6C_DD1D)
+    }
+
+    pub fn below(&mut self, n: usize) -> usize {
+        ((self.bits() >> 33) as usize) % n
+    }
+
+    /// True once in n.
+    pub fn once_in(&mut self, n: usize) -> bool {
+        self.below(n) == 0
+    }
+
+    pub fn of<'a>(&mut self, list: &[&'a str]) -> &'a str {
+        list[self.below(list.len())]
+    }
+}
+
+/// Every row of up to `most` pieces, the empty one first.
+pub fn each(pieces: &[&[u8]], most: usize, f: &mut impl FnMut(&[u8])) {
+    fn go(pieces: &[&[u8]], left: usize, text: &mut Vec<u8>, f: &mut impl FnMut(&[u8])) {
+        f(text);
+        if left > 0 {
+            let length = text.len();
+            for piece in pieces {
+                text.extend_from_slice(piece);
+                go(pieces, left - 1, text, f);
+                text.truncate(length);
+            }
+        }
+    }
+    go(pieces, most, &mut Vec::new(), f)
+}
+
+/// Bytes at which the lexer decides: every class, every prefix and suffix, the digits at the edges of the bases.
+pub const TELLING_BYTES: [&[u8]; 20] = [
+    b"0", b"1", b"7", b"8", b"b", b"B", b"d", b"o", b"O", b"x", b"h", b"f", b"g", b"_", b" ", b"\n", b"'", b";", b"$", b"\0",
+];
+
+/// Pieces at which the parser decides.
+pub const TELLING_PIECES: [&[u8]; 37] = [
+    b"mov ", b"rep ", b"equ ", b"db ", b"dw ", b"times ", b"a", b"a ", b"ax", b"bx", b"si", b"es", b"byte ", b"[", b"]", b"(",
+    b")", b"+", b"-", b"*", b":", b",", b"$", b"1", b"0abh", b"0x80000000", b"'c'", b"'cd'", b"'", b"'' ", b" ", b"\n", b";",
+    b".", b"\r", b"!", b"2b",
+];
+
+/// Fewer pieces, for longer rows.
+pub const OPERAND_PIECES: [&[u8]; 14] =
+    [b"[", b"]", b"es", b":", b"bx", b"si", b"+", b"-", b"1", b"a", b" ", b"byte ", b",", b"("];
+
+const OPERATIONS: [&str; 16] =
+    ["mov", "add", "jmp", "Call", "in", "NOP", "rep", "repne", "repnz", "ssb", "int3", "lea", "loopne", "test", "xlatb", "SALC"];
+const REGISTERS: [&str; 16] =
+    ["al", "CL", "dl", "bl", "ah", "ch", "dh", "bh", "ax", "cx", "Dx", "bx", "sp", "bp", "si", "di"];
+const SEGMENTS: [&str; 4] = ["es", "CS", "ss", "ds"];
+const NAMES: [&str; 14] =
+    ["a", "w12", "_x", "start", "sal", "xlat", "repe", "movs", "times1", "bytes", "equ", "byte", "h", "times"];
+const NUMBERS: [&str; 26] = [
+    "0", "1", "10", "255", "256", "65535", "65536", "70000", "2147483647", "2147483648", "0x1F", "0x7fffffff", "0x80000000",
+    "0b101", "0o17", "0d9", "101b", "17o", "12h", "0FFh", "0abh", "10bh", "99999999999", "12a", "0B", "0x",
+];
+const STRINGS: [&str; 8] = ["'c'", "''", "'ab'", "' '", "'weld 12'", "';'", "'open", "'\"'"];
+const BLANKS: [&str; 6] = [" ", "  ", "\t", "\r", " \t ", ""];
+
+/// A source by the grammar, with a slip now and then.
+pub fn grammar(random: &mut Random) -> Vec<u8> {
+    let mut text = String::new();
+    let statements = 1 + random.below(4);
+    for _ in 0..statements {
+        statement(random, &mut text, 0);
+        text += random.of(&["\n", "\n", "\n", "\n", "\n\n", "\r\n", " ;note\n", "\n ; times\n", ""]);
+    }
+    if random.once_in(4) {
+        text.truncate(random.below(text.len() + 1));
+    }
+    text.into_bytes()
+}
+
+fn blank(random: &mut Random, text: &mut String) {
+    if random.once_in(6) {
+        *text += random.of(&BLANKS);
+    }
+}
+
+fn statement(random: &mut Random, text: &mut String, nesting: usize) {
+    blank(random, text);
+    match random.below(12) {
+        0 => {
+            *text += random.of(&NAMES);
+            *text += random.of(&[":", " :", "", " "]);
+        }
+        1 | 2 => {
+            *text += random.of(&["db", "dw", "DB", "Dw"]);
+            for _ in 0..random.below(5) {
+                *text += random.of(&[" ", ",", " , ", ",,", ""]);
+                *text += &number_or_string(random);
+            }
+        }
+        3 | 4 => {
+            *text += random.of(&["equ", "EQU", "k equ", "k: equ"]);
+            *text += " ";
+            expression(random, text, 0);
+        }
+        5 if nesting < 4 => {
+            *text += random.of(&["times", "TIMES", "Times"]);
+            *text += " ";
+            expression(random, text, 1);
+            *text += random.of(&[" ", " ", "\n", "\n\n", " ;c\n", ""]);
+            statement(random, text, nesting + 1);
+        }
+        _ => {
+            *text += random.of(&OPERATIONS);
+            let operands = random.below(4);
+            for i in 0..operands.min(2) {
+                *text += if i == 0 { " " } else { random.of(&[",", " , ", ", ", ",", " "]) };
+                operand(random, text);
+            }
+        }
+    }
+    blank(random, text);
+}
+
+fn number_or_string(random: &mut Random) -> String {
+    if random.once_in(3) { random.of(&STRINGS) } else { random.of(&NUMBERS) }.to_string()
+}
+
+fn operand(random: &mut Random, text: &mut String) {
+    while random.once_in(5) {
+        *text += random.of(&["byte ", "word ", "WORD", "Byte\t"]);
+    }
+    match random.below(10) {
+        0 | 1 => *text += random.of(&REGISTERS),
+        2 => *text += random.of(&SEGMENTS),
+        3..=6 => {
+            *text += "[";
+            blank(random, text);
+            if random.once_in(4) {
+                *text += random.of(&SEGMENTS);
+                blank(random, text);
+                *text += if random.once_in(8) { "" } else { ":" };
+                blank(random, text);
+            }
+            if !random.once_in(3) {
+                *text += random.of(&["bx", "bp", "si", "di", "BX", "Si", "ax", "bl"]);
+                blank(random, text);
+                if random.once_in(2) {
+                    *text += "+";
+                    blank(random, text);
+                    *text += random.of(&["si", "di", "DI", "bx", "cl", "", "a", "es"]);
+                    blank(random, text);
+                }
+            }
+            if random.once_in(2) {
+                *text += random.of(&["+", "-", "", " "]);
+                expression(random, text, 1);
+            }
+            *text += if random.once_in(10) { "" } else { "]" };
+        }
+        7 => {
+            expression(random, text, 1);
+            *text += random.of(&[":", " : "]);
+            expression(random, text, 1);
+        }
+        _ => expression(random, text, 0),
+    }
+    blank(random, text);
+}
+
+fn expression(random: &mut Random, text: &mut String, depth: usize) {
+    match random.below(if depth > 3 { 6 } else { 10 }) {
+        0..=2 => *text += random.of(&NUMBERS),
+        3 => *text += random.of(&NAMES),
+        4 => *text += random.of(&["$", "$$", "$ $", "'c'", "' '"]),
+        5 => *text += &number_or_string(random),
+        6 => {
+            *text += random.of(&["-", "+", "- ", "*"]);
+            expression(random, text, depth + 1);
+        }
+        7 => {
+            *text += "(";
+            expression(random, text, depth + 1);
+            *text += if random.once_in(12) { "" } else { ")" };
+        }
+        _ => {
+            expression(random, text, depth + 1);
+            blank(random, text);
+            *text += random.of(&["+", "-", "*", "/"]);
+            blank(random, text);
+            expression(random, text, depth + 1);
+        }
+    }
+}
+
+/// One to four small changes: a byte exchanged, dropped, doubled or put in, a stretch moved.
+pub fn changed(random: &mut Random, source: &[u8]) -> Vec<u8> {
+    let mut text = source.to_vec();
+    for _ in 0..1 + random.below(4) {
+        let at = random.below(text.len() + 1);
+        match random.below(5) {
+            0 if at < text.len() => text[at] = byte(random),
+            1 if at < text.len() => drop(text.remove(at)),
+            2 if at < text.len() => text.insert(at, text[at]),
+            3 => {
+                let piece = TELLING_PIECES[random.below(TELLING_PIECES.len())];
+                text.splice(at..at, piece.iter().copied());
+            }
+            4 if at < text.len() => {
+                let to = at + 1 + random.below((text.len() - at).min(8));
+                let piece: Vec<u8> = text.drain(at..to).collect();
+                let at = random.below(text.len() + 1);
+                text.splice(at..at, piece);
+            }
+            _ => text.insert(at, byte(random)),
+        }
+    }
+    text
+}
+
+fn byte(random: &mut Random) -> u8 {
+    match random.below(16) {
+        0 => random.bits() as u8 & 127,
+        _ => {
+            let usual = b"0123456789abcdefoxhABDOH_zZ \n\t\r';:,$.[]()+-*/!\"@";
+            usual[random.below(usual.len())]
+        }
+    }
+}
+
+/// Bytes without a plan; one source in sixteen has bytes above 127.
+pub fn noise(random: &mut Random, most: usize) -> Vec<u8> {
+    let (length, wide) = (random.below(most + 1), random.once_in(16));
+    (0..length).map(|_| if wide && random.once_in(8) { random.bits() as u8 } else { byte(random) }).collect()
+}
+
+/// Numbers that are refused when they become the token ahead.
+pub const REFUSED: [&str; 4] = ["0abh", "2b", "0x80000000", "0d2147483648"];
+
+/// Beginnings of a line that end right where a refusal is due or has just been missed: each cause, and lines that are whole.
+pub fn causes() -> Vec<String> {
+    let mut list: Vec<String> = [
+        // whole statements, and statements that go on
+        "", "a", "a:", "nop", "rep", "mov ax,bx", "mov ax,1", "mov ax,[1]", "db 1", "db 'a',", "equ 1", "equ $", "equ $$",
+        "equ (1)", "times 2 a", "times 2", "times 2 ", "jmp 1:2", "jmp 1:", "mov byte", "mov byte [bx]", "mov [bx+si]",
+        "mov [bx+4]", "mov [bx", "mov [bx+", "mov [es:1]",
+        // 10 to 14
+        "equ 1 1", "mov ax,bx cx", "mov ax bx", "jmp es:", "mov [es ", "mov [es]", "mov [1", "mov [1 1", "mov [bx+si+1",
+        "equ (1", "equ (1 1", "equ (1]",
+        // 15 to 17, 20, 21
+        "db a", "db 1 a", "db .", "db 1+", "equ '", "equ 'ab'", "equ ''", "equ 'ab", ".", "1", "'a'", "mov !", "equ ", "equ )", "mov ,",
+        "mov ax,", "equ 1+", "equ -", "equ (",
+        // 22 to 26
+        "equ *", "equ /", "equ 1**", "equ (/", "equ -*", "mov *", "mov ax,*", "mov [1+*", "mov [bx*", "times *", "db", "db ", "dw ,",
+        "db ''", "db '',", "mov []", "mov [", "mov [.", "mov [+1]", "mov [$]", "mov [']", "mov [ax", "mov [ ax]", "mov [es:al", "mov [es: cx]",
+        "mov [bx+bx", "mov [si+ax]", "mov [bp+cl]", "db 'a", "db 1,'",
+        // 32 to 34
+        "mov [es:]", "mov ax,[ ds : ]", "mov [es:],ax", "mov [es:", "mov [si+si", "mov [si+di", "mov [di + si]", "mov [es:di+di",
+        "times 1", "times 1 times 2", "times times", "times 1\ntimes 2\n", "times 1 ;c",
+        // invalid characters
+        "12a", "0B1", "equ 2147483648", "equ 12a", "!",
+    ]
+    .map(String::from)
+    .to_vec();
+    // 3: just inside and just outside, by each kind of opener; 5 likewise
+    for count in [30, 31, 32, 33] {
+        for opener in ["(", "-", "+", "(1+", "(1*", "1+-", "-(", "(-", "1*(", "1-1*("] {
+            let row = opener.repeat(count / levels(opener)) + &"(".repeat(count % levels(opener));
+            for head in ["equ ", "mov [1+", "mov [bx+", "mov ax,", "jmp 1:", "times "] {
+                list.push(format!("{head}{row}"));
+                list.push(format!("{head}{row}1"));
+                list.push(format!("{head}{row}*"));
+                list.push(format!("{head}{row}1{}", ")".repeat(row.matches('(').count())));
+            }
+        }
+    }
+    for count in [15, 16, 17] {
+        for unit in ["times 1 ", "times 1\n", "times 1 ;\n\n", "TIMES times\n"] {
+            for tail in ["", "a", "times", "times ", "times *", "a\ntimes 1 b", "5"] {
+                list.push(unit.repeat(count) + tail);
+            }
+        }
+    }
+    list
+}
+
+/// How many levels one use of an opener takes.
+fn levels(opener: &str) -> usize {
+    opener.matches('(').count() + opener.matches(['+', '-', '*']).count()
+}
+
+/// Every cause, alone and with something directly behind it, at the line's end, and at the next line's start; and as the
+/// second line.
+pub fn behind_causes(f: &mut impl FnMut(&[u8])) {
+    for cause in causes() {
+        for between in ["", " ", "\n", " ;c\n\n", "\r", ",", "]", ")", ":"] {
+            for behind in REFUSED.iter().chain(&["", "1", "a", "*", "(", "'", ".", "times", "]", "$", "\u{7f}"]) {
+                let line = format!("{cause}{between}{behind}");
+                f(line.as_bytes());
+                f(format!("k equ 2\n{line}\n").as_bytes());
+            }
+        }
+    }
+}
+
+/// Long sources: at and around 65,536 bytes, deep beyond every limit, long rows of one thing.
+pub fn long(f: &mut impl FnMut(&[u8])) {
+    for length in [65535, 65536, 65537, 70000] {
+        for unit in ["a", "\n", " ", ";", "a\n", "in-1\n", "nop\n", "db 1\n", "times 1 a\n", "equ 1+2*3\n"] {
+            let mut text = unit.repeat(length / unit.len() + 1);
+            text.truncate(length);
+            f(text.as_bytes());
+        }
+    }
+    for count in [100, 13000] {
+        f(format!("mov {}[bx]", "byte ".repeat(count)).as_bytes());
+        f(format!("equ {}1", "1+".repeat(count)).as_bytes());
+        f(format!("equ 1{}", "*2/3".repeat(count)).as_bytes());
+        f(format!("equ {}1{}", "(".repeat(count), ")".repeat(count)).as_bytes());
+        f(format!("equ {}1", "-".repeat(count)).as_bytes());
+        f(format!("db {}", "1,".repeat(count)).as_bytes());
+        f(format!("db '{}'", "x".repeat(count)).as_bytes());
+        f("times 1 ".repeat(count / 20).as_bytes());
+        f("1".repeat(count / 4).as_bytes());
+        f("'".repeat(count / 4).as_bytes());
+        f(format!("{}a", "\n".repeat(count)).as_bytes());
+        f("\u{e9}".repeat(count).as_bytes());
+    }
+}
+
+/// A marker file of about this many bytes, never more: labels, `dw`, `equ` with expressions, comments.
+pub fn marker_lines(length: usize) -> String {
+    fill(length, |i, random, text| {
+        let pick = random.below(1000);
+        *text += &match i % 8 {
+            0 => format!("; joint {} of section {}, checked twice\n", i, i / 40),
+            1 => format!("weld_{i}:\n"),
+            2 => format!("    dw {}, 0x{:x}, {}h ; depth and age\n", pick, pick * 7, pick % 10),
+            3 => format!("limit{i} equ ({pick}+2)*3-{}/4\n", pick / 3),
+            4 => format!("    dw {}, {}, {}\n", pick, pick + 1, pick * 3),
+            5 => format!("span{i} equ limit{} - (weld_{} + {pick})\n", i - 2, i - 4),
+            6 => format!("    db {}, 'crew {}', 0\n", pick % 256, pick % 9),
+            _ => format!("mark{i}: dw 101b, 17o, {pick}\n"),
+        }
+    })
+}
+
+/// Code of about this many bytes, never more: instructions with brackets, `times`, strings.
+pub fn code_lines(length: usize) -> String {
+    fill(length, |i, random, text| {
+        let pick = random.below(250);
+        *text += &match i % 8 {
+            0 => format!("next{i}: mov ax, [bx+si+{pick}]\n"),
+            1 => format!("    add word [es:di+{pick}], 0x{pick:x}\n"),
+            2 => format!("    times {} db 'x', {pick}\n", 1 + pick % 5),
+            3 => "    rep movsb\n".to_string(),
+            4 => format!("    cmp byte [bp-{pick}], 'q'\n"),
+            5 => format!("    jne next{}\n", i - 5),
+            6 => format!("    db 'part {pick}', 13, 10\n"),
+            _ => format!("    call {pick}:{} ; far\n", pick * 3),
+        }
+    })
+}
+
+fn fill(length: usize, line: impl Fn(usize, &mut Random, &mut String)) -> String {
+    let (mut random, mut text, mut i) = (Random::new(4), String::new(), 0);
+    loop {
+        let whole = text.len();
+        line(i, &mut random, &mut text);
+        if text.len() > length {
+            text.truncate(whole);
+            return text;
+        }
+        i += 1;
+    }
+}

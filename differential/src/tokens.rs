@@ -1,0 +1,140 @@
+//! Compares a token read with the original's `Cursor::next_token`.
+use crate::found::Found;
+use crate::original;
+use crate::sources::{self, Random};
+
+/// A token read at a place of a source.
+pub trait TokenRead: FnMut(&[u8], usize) -> Found {}
+impl<F: FnMut(&[u8], usize) -> Found> TokenRead for F {}
+
+pub struct Compare<F> {
+    ours: F,
+    pub sources: u64,
+    pub tokens: u64,
+    pub refused: [u64; 2],
+}
+
+impl<F: TokenRead> Compare<F> {
+    pub fn new(ours: F) -> Self {
+        Self { ours, sources: 0, tokens: 0, refused: [0, 0] }
+    }
+
+    fn at(&mut self, source: &str, place: usize) -> Found {
+        let expected = original::token_at(source, place);
+        let said = (self.ours)(source.as_bytes(), place);
+        assert!(said == expected, "{source:?} at {place}\nexpected {expected:?}\nsaid     {said:?}");
+        self.tokens += 1;
+        expected
+    }
+
+    /// The tokens of a source in turn, the end of file among them, up to a refused number. Panics where the two differ.
+    pub fn source(&mut self, source: &[u8]) {
+        let source = std::str::from_utf8(source).expect("the original reads characters");
+        self.sources += 1;
+        let mut place = 0;
+        loop {
+            let found = self.at(source, place);
+            match found.kind {
+                0 => return assert_eq!(place, source.len(), "an end of file before the end: {source:?}"),
+                30 | 31 => return self.refused[found.kind as usize - 30] += 1,
+                _ => assert!(found.length > 0, "a token of no bytes: {source:?} at {place}"),
+            }
+            place += found.length;
+        }
+    }
+
+    /// The token at every place of a source, the inside of tokens among them.
+    pub fn every_place(&mut self, source: &[u8]) {
+        let source = std::str::from_utf8(source).expect("the original reads characters");
+        self.sources += 1;
+        for place in 0..=source.len() {
+            self.at(source, place);
+        }
+    }
+
+    /// Every source of the usual run: over four million. `scale` 1 takes some seconds.
+    pub fn all(&mut self, scale: u64) {
+        sources::each(&sources::TELLING_BYTES, 5, &mut |source| self.source(source));
+        let bytes: Vec<[u8; 1]> = (0..128).map(|b| [b]).collect();
+        let bytes: Vec<&[u8]> = bytes.iter().map(|b| b.as_slice()).collect();
+        sources::each(&bytes, 2, &mut |source| self.every_place(source));
+        numbers(&mut |source| if source.len() < 20 { self.every_place(source.as_bytes()) } else { self.source(source.as_bytes()) });
+        for length in [65535, 65536] {
+            for unit in ["a", "0", "f", " ", "\t\r", "\n", ";", "$", "\u{7f}", "a1_ ", "0x1 ", "'\n", "1b"] {
+                self.source(&repeated(unit, length));
+            }
+            for (open, close) in [("'", "'"), ("'", ""), ("'", "\n"), (";", "\n"), ("0x", "")] {
+                let middle = repeated("0", length - open.len() - close.len());
+                self.source(&[open.as_bytes(), &middle, close.as_bytes()].concat());
+            }
+        }
+        // The whole rest is looked through at each quote, and the whole run at each digit of a number that is too large.
+        for unit in ["1", "'", "''", "'a' ", "'a'\n"] {
+            self.source(&repeated(unit, 4096));
+        }
+        let mut random = Random::new(2);
+        for _ in 0..400_000 * scale {
+            let source = sources::grammar(&mut random);
+            self.source(&source);
+            let source = sources::changed(&mut random, &source);
+            self.source(&source);
+        }
+        for i in 0..400_000 * scale {
+            let source = ascii(sources::noise(&mut random, 24));
+            if i % 4 == 0 {
+                self.every_place(&source)
+            } else {
+                self.source(&source)
+            }
+        }
+        for _ in 0..400_000 * scale {
+            let source = number_like(&mut random);
+            self.source(&source);
+        }
+    }
+}
+
+fn repeated(unit: &str, length: usize) -> Vec<u8> {
+    unit.bytes().cycle().take(length).collect()
+}
+
+fn ascii(mut source: Vec<u8>) -> Vec<u8> {
+    source.iter_mut().for_each(|b| *b &= 127);
+    source
+}
+
+/// A row of characters that numbers are made of.
+fn number_like(random: &mut Random) -> Vec<u8> {
+    let mut text = vec![b"0000123456789"[random.below(13)]];
+    if random.once_in(2) {
+        text.push(b"bodxBODXh"[random.below(9)]);
+    }
+    let digits: &[u8] = [&b"01"[..], b"01234567", b"0123456789", b"0123456789abcdefABCDEF"][random.below(4)];
+    for _ in 0..random.below(36) {
+        text.push(digits[random.below(digits.len())]);
+    }
+    for _ in 0..random.below(3) {
+        text.push(b"bBoOdDhHxX 9fg_:"[random.below(16)]);
+    }
+    text
+}
+
+/// Numbers at the edges: 2147483647 and its neighbours in each base, spelled in each way, with zeros before and things behind.
+pub fn numbers(f: &mut impl FnMut(&str)) {
+    let edges: [u64; 16] =
+        [0, 1, 2, 7, 8, 9, 10, 15, 16, 255, 2147483646, 2147483647, 2147483648, 2147483649, 4294967295, 4294967296];
+    for value in edges.into_iter().chain([u64::MAX, 1 << 62, 21474836470, 0x7fffffff0]) {
+        let spelled = [format!("{value:b}"), format!("{value:o}"), format!("{value}"), format!("{value:x}"), format!("{value:X}")];
+        for digits in spelled {
+            for zeros in ["", "0", "000", &"0".repeat(40)] {
+                for prefix in ["", "0b", "0o", "0d", "0x", "0B", "0O", "0D", "0X"] {
+                    for suffix in ["", "b", "B", "o", "O", "d", "D", "h", "H"] {
+                        for behind in ["", " ", "h", "o", "b", "9", "g", ",", "x"] {
+                            f(&format!("{prefix}{zeros}{digits}{suffix}{behind}"));
+                        }
+                    }
+                }
+            }
+        }
+    }
+}
