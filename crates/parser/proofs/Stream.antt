@@ -183,3 +183,11 @@ module _ (x y : Lexeme) (ys : List Lexeme) where
   pub below-end : isLineEnd (x .kind) ≡ true → belowOf x (y ∷ ys) ≡ record { first = y; more = moreOf y ys } ∷ belowOf y ys
   unfolding belowOf rows
   below-end e = ap (λ (b : Bool). belowIn (if b then record { first = x; more = [] } ∷ rows (y ∷ ys) else push x (rows (y ∷ ys)))) e ∙ rows-first y ys
+
+-- a gap is not the end
+pub gap-not-end : (k : ℕ) → (eqb k 32 || eqb k 59) ≡ true → eqb k 0 ≡ false
+gap-not-end k h = go (eqb k 0) refl
+  where
+    go : (b : Bool) → eqb k 0 ≡ b → eqb k 0 ≡ false
+    go true e = let z : (eqb 0 32 || eqb 0 59) ≡ true = rw (eqb-true k 0 e) at h in cc
+    go false e = e

@@ -71,11 +71,21 @@ fn fetch(src: &[u8], place: u32) -> Fetched
     requires { ⌜ length (now src) ≤ 65536 ⌝ }
     ensures { λ r. ⌜ Fetches (now (src .entry)) place (r .start) (r .end) (r .kind) (r .value) ⌝ }
 {
-    Fetched {
-        start: place,
-        end: place,
-        kind: 0,
-        value: src.len() as u32,
+    let mut at = place;
+    loop {
+        let t = lexer::scan(src, at as usize);
+        let kind = t.kind;
+        let end = t.end as u32;
+        if (kind == 32) | (kind == 59) {
+            at = end;
+        } else {
+            return Fetched {
+                start: at,
+                end: end,
+                kind: kind,
+                value: t.value,
+            };
+        }
     }
 }
 
@@ -147,7 +157,7 @@ pub fn text(src: &[u8], p: Parser) -> &[u8]
     let from = p.token_start as usize;
     let to = p.pos as usize;
     if from < to {
-        return &src[0..0];
+        return lexer::source_at(src, from, to - from);
     }
-    &src[0..0]
+    lexer::source_at(src, from, 0)
 }

@@ -1,48 +1,38 @@
+-- The bytes of the token, as the lexer hands them out.
+-- Assumes nothing.
+use Prim.Native.Nat.{_-_}
+use mathlib.Core.Path.{_≡_, refl, sym, ap, _∙_}
+use native.Mathlib.Omega.{arith}
+use Rattle.parser.specs.Views.{textOf}
 use borrow.Author.Needs.{needs}
 use Rattle.parser.proofs.state.text.Statement.{statement}
 use Rattle.parser.proofs.state.text.Tie as tie
 use Rattle.parser.proofs.state.text.Reads as reads
 use Rattle.parser.proofs.state.text.Lts as lts
+use Rattle.lexer.proofs.source_at.Reads as source-at-reads
 
--- src/state.rt:147:16
 cast-from : tie.Need-cast-from
 cast-from c = search needs
 
--- src/state.rt:148:14
 cast-to : tie.Need-cast-to
 cast-to c = search needs
 
--- src/state.rt:150:16
-sub-result : tie.Need-sub-result
-sub-result c = search needs
+sub-source-at : tie.Need-sub-source-at
+sub-source-at c = search needs
 
--- src/state.rt:150:16
-part-result-start : tie.Need-part-result-start
-part-result-start c = search needs
+source-at-requires : tie.Need-source-at-requires
+source-at-requires c κs = search needs
 
--- src/state.rt:150:16
-part-result-end : tie.Need-part-result-end
-part-result-end c = search needs
-
--- src/state.rt:150:9
 returns : tie.Need-returns
-returns c = ?
+unfolding textOf
+returns c = c .source-at .ensures
 
--- src/state.rt:152:5
-sub-result-2 : tie.Need-sub-result-2
-sub-result-2 c = search needs
+source-at-requires-2 : tie.Need-source-at-requires-2
+source-at-requires-2 c κs = search needs
 
--- src/state.rt:152:5
-part-result-start-2 : tie.Need-part-result-start-2
-part-result-start-2 c = search needs
-
--- src/state.rt:152:5
-part-result-end-2 : tie.Need-part-result-end-2
-part-result-end-2 c = search needs
-
--- src/state.rt:144:1
 returns-2 : tie.Need-returns-2
-returns-2 c = ?
+unfolding textOf
+returns-2 c = let e : c .before .before .before .before .before .args .p .pos - c .before .before .before .before .before .args .p .«token_start» ≡ 0 = omega (arith, c .before .if1 .left) in rw e (c .source-at2 .ensures)
 
 pub text-spec : {M : Type 1} → statement M
 text-spec =
@@ -50,11 +40,8 @@ text-spec =
     (tie.spec
     cast-from
     cast-to
-    sub-result
-    part-result-start
-    part-result-end
+    sub-source-at
+    source-at-requires
     returns
-    sub-result-2
-    part-result-start-2
-    part-result-end-2
+    source-at-requires-2
     returns-2)
