@@ -6,6 +6,7 @@ use mathlib.Core.Bool.{Bool, true, false}
 use mathlib.Core.List.{List, [], _∷_}
 use mathlib.Core.Option.{Option, none, some}
 use native.Mathlib.Omega.{arith}
+use native.Mathlib.Nat.{le-refl}
 use native.Mathlib.Numerals.{add-one}
 use lib.Dec.{ltb}
 use lib.ListN.{length, drop, getD, drop-of-length-le}
@@ -64,6 +65,9 @@ module _ (s : List ℕ) where
       go : (o : Option ℕ) → foreign 0 s ≡ o → i ≡ maybe o (length s) (λ p. p) → foreign 0 s ≡ none
       go none f k = f
       go (some p) f k = absurd (omega (arith, foreign-inside 0 s p f))
+
+  pub never-foreign : length s ≡ foreignPlace s → foreign 0 s ≡ none
+  never-foreign e = none-foreign e (le-refl (length s))
 
   pub too-long : 65536 < length s → Refused (numbersOf (at 1 0 0)) ≡ lentOf s
   unfolding lentOf lent unless tooLong mostBytes

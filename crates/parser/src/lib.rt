@@ -2,4 +2,5 @@
 pub mod state;
 pub mod expressions;
 pub mod operands;
+pub mod statements;
 pub mod reader;
