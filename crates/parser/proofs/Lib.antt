@@ -2,3 +2,5 @@ pub mod Chain
 pub mod Flat
 pub mod Stream
 pub mod Steps
+pub mod ExpressionsReading
+pub mod ExpressionsEvaluate
