@@ -67,6 +67,11 @@ operator-other k n {op} f e = ne-eqb k n λ h. let z : _≡_ {A = Option ℕ} no
     none-some z = let y : _≡_ {A = ℕ} 0 1 = cc in omega arith
 
 
+-- so it stands within a line
+pub operator-inside : (k : ℕ) {op : ℕ} → operatorOf (mark k) ≡ some op → (eqb k 10 ≡ false) × (eqb k 0 ≡ false)
+unfolding operatorOf isMark is
+operator-inside k e = (operator-other k 10 refl e, operator-other k 0 refl e)
+
 -- Levels.
 pub right-level : (op : Operator) → leftLevel (operatorNumber op) + 1 ≡ rightLevel (operatorNumber op)
 unfolding leftLevel rightLevel
@@ -82,13 +87,13 @@ level-small Subtract = omega arith
 level-small Multiply = omega arith
 level-small Divide = omega arith
 
-pub sign-level : (op : Operator) (n : ℕ) → prefixLevelOf op ≡ Level n → (ltb (operatorNumber op) 2 ≡ true) × (prefixLevel ≡ n)
+sign-level : (op : Operator) (n : ℕ) → prefixLevelOf op ≡ Level n → (ltb (operatorNumber op) 2 ≡ true) × (prefixLevel ≡ n)
 sign-level Add n e = (refl, cc)
 sign-level Subtract n e = (refl, cc)
 sign-level Multiply n e = (cc, cc)
 sign-level Divide n e = (cc, cc)
 
-pub no-sign : (op : Operator) → prefixLevelOf op ≡ Invalid → ltb (operatorNumber op) 2 ≡ false
+no-sign : (op : Operator) → prefixLevelOf op ≡ Invalid → ltb (operatorNumber op) 2 ≡ false
 no-sign Add e = cc
 no-sign Subtract e = cc
 no-sign Multiply e = refl
@@ -179,40 +184,50 @@ module _ (s : List ℕ) (p : Parser) (i : ℕ) (l : List ℕ) where
     abbrev opened : Reader Line (Unit {0})
     opened = next >> inner 0 >> expect ")" 14
 
-    abbrev signed : ℕ → Reader Line (Unit {0})
-    signed op = next >> ((if ltb op 2 then (inner prefixLevel) else (refuse (nowhere 22))) >> (passed >>= λ t. write (PF (p .«token_start») t op)))
+    abbrev signed : Reader Line (Unit {0}) → ℕ → Reader Line (Unit {0})
+    signed operand op = next >> (operand >> (passed >>= λ t. write (PF (p .«token_start») t op)))
 
-    by-first : Sofar line s p (primary inner) i l p (if isMark "(" (here .kind) then opened else maybe (operatorOf (here .kind)) atom signed) i l
+    abbrev operand : ℕ → Reader Line (Unit {0})
+    operand op = if ltb op 2 then (inner prefixLevel) else (refuse (nowhere 22))
+
+    by-byte : Sofar line s p (primary inner) i l p (if eqb (p .kind) 40 then opened else maybe (operatorOf (mark (p .kind))) atom λ op. signed (operand op) op) i l
     unfolding primary
-    by-first = comes ahead _ (starts line s p (primary inner) i l) is-ahead
-
-    by-byte : Sofar line s p (primary inner) i l p (if eqb (p .kind) 40 then opened else maybe (operatorOf (mark (p .kind))) atom signed) i l
-    by-byte = rw (mark-is (p .kind) (p .value) text "(" (plain "(" refl), operator-is (p .kind) (p .value) text) at by-first
+    by-byte = rw (mark-is (p .kind) (p .value) text "(" (plain "(" refl), operator-is (p .kind) (p .value) text) at (comes ahead _ (starts line s p (primary inner) i l) is-ahead)
 
     pub primary-opens : p .kind ≡ 40 → Sofar line s p (primary inner) i l p opened i l
     primary-opens e = becomes by-byte (rw e)
 
-    module _ {op : ℕ} (e : operatorOf (mark (p .kind)) ≡ some op) where
-      pub primary-signed : Sofar line s p (primary inner) i l p (signed op) i l
+    module _ (op : Operator) (e : operatorOf (mark (p .kind)) ≡ some (operatorNumber op)) where
+      pub primary-signed : Sofar line s p (primary inner) i l p (signed (operand (operatorNumber op)) (operatorNumber op)) i l
       unfolding operatorOf isMark is
       primary-signed = becomes by-byte (rw (operator-other (p .kind) 40 refl e, e))
+
+      pub primary-operand : {n : ℕ} → prefixLevelOf op ≡ Level n → Sofar line s p (primary inner) i l p (signed (inner n) (operatorNumber op)) i l
+      primary-operand f = let (a, b) = sign-level op _ f in becomes primary-signed (rw (a, b))
+
+      pub primary-no-operand : prefixLevelOf op ≡ Invalid → Sofar line s p (primary inner) i l p (signed (refuse (nowhere 22)) (operatorNumber op)) i l
+      primary-no-operand f = becomes primary-signed (rw (no-sign op f))
 
     pub primary-atom : eqb (p .kind) 40 ≡ false → operatorOf (mark (p .kind)) ≡ none → Sofar line s p (primary inner) i l p atom i l
     primary-atom f e = becomes by-byte (rw (f, e))
 
-  -- an expression where one more may begin
-  pub expr-begins : (level d : ℕ) → Sofar line s p (expr (suc d) level) i l p (primary (expr d) >> (left >>= λ n. infixes n (expr d) level (p .«token_start»))) i l
+  -- an expression where no more may begin, and where one may
+  pub expr-over : (level : ℕ) {depth : ℕ} → depth ≡ 0 → Sofar line s p (expr depth level) i l p (refuseHere 3) i l
   unfolding expr
-  expr-begins level d = comes ahead _ (starts line s p (expr (suc d) level) i l) is-ahead
+  expr-over level e = rw e (starts line s p (expr 0 level) i l)
+
+  pub expr-begins : (level : ℕ) {depth d : ℕ} → depth ≡ suc d → Sofar line s p (expr depth level) i l p (primary (expr d) >> (left >>= λ n. infixes n (expr d) level (p .«token_start»))) i l
+  unfolding expr
+  expr-begins level {depth} {d} e = rw e (comes ahead _ (starts line s p (expr (suc d) level) i l) is-ahead)
 
 -- the operators behind it
 module _ (s : List ℕ) (q : Parser) (inner : ℕ → Reader Line (Unit {0})) (level f : ℕ) where
-  abbrev turn : ℕ → ℕ → Reader Line (Unit {0})
-  turn n op = next >> (inner (rightLevel op) >> (passed >>= λ t. write (IN f t op) >> infixes n inner level f))
+  abbrev turn : ℕ → ℕ → ℕ → Reader Line (Unit {0})
+  turn n op right = next >> (inner right >> (passed >>= λ t. write (IN f t op) >> infixes n inner level f))
 
   module _ {p : Parser} {m : Reader Line (Unit {0})} {i w : ℕ} {l l₁ : List ℕ} where
     by-operator : (n : ℕ) → Sofar line s p m i l q (infixes (suc n) inner level f) w l₁ →
-        Sofar line s p m i l q (maybe (operatorOf (mark (q .kind))) (return tt) λ op. if ltb (leftLevel op) level then (return tt) else (turn n op)) w l₁
+        Sofar line s p m i l q (maybe (operatorOf (mark (q .kind))) (return tt) λ op. if ltb (leftLevel op) level then (return tt) else (turn n op (rightLevel op))) w l₁
     unfolding infixes
     by-operator n so = rw (operator-is (q .kind) (q .value) (textOf s (q .«token_start») (q .pos))) at (comes kind _ so is-kind)
 
@@ -227,5 +242,10 @@ module _ (s : List ℕ) (q : Parser) (inner : ℕ → Reader Line (Unit {0})) (l
       too-loose zero t so = so
       too-loose (suc n) t so = becomes (by-operator n so) (rw (e, t))
 
-      pub turns : (n : ℕ) → ltb (leftLevel op) level ≡ false → Sofar line s p m i l q (infixes (suc n) inner level f) w l₁ → Sofar line s p m i l q (turn n op) w l₁
-      turns n t so = becomes (by-operator n so) (rw (e, t))
+      pub turns : {n k right : ℕ} → n ≡ suc k → ltb (leftLevel op) level ≡ false → rightLevel op ≡ right → Sofar line s p m i l q (infixes n inner level f) w l₁ → Sofar line s p m i l q (turn k op right) w l₁
+      turns {n} {k} {right} a t b so = becomes (by-operator k (rw a at so)) (rw (e, t, b))
+
+-- the fuel of one turn more
+pub positive : (n : ℕ) → 1 ≤ n → (m : ℕ) × (n ≡ suc m)
+positive zero h = absurd (not-suc-le-zero h)
+positive (suc m) h = (m, refl)

@@ -4,3 +4,4 @@ pub mod Stream
 pub mod Steps
 pub mod ExpressionsReading
 pub mod ExpressionsEvaluate
+pub mod ExpressionsShorter

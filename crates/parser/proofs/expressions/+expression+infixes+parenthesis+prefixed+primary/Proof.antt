@@ -1,3 +1,29 @@
+-- Each function follows its reader statement by statement. The depth that is left falls at each call of `expression`: three times it is that
+-- function's measure, and those that it calls at the depth below have one or two more than three times that. The loop of operators carries
+-- its fuel, which the tokens left of the line bound.
+-- Assumes nothing.
+use Prim.Native.Nat.{suc, _+_, _-_, _≤_}
+use mathlib.Core.Path.{_≡_, refl, sym, ap, subst, _∙_}
+use mathlib.Core.List.{[]}
+use native.Mathlib.Omega.{arith}
+use native.Mathlib.Nat.{le-refl}
+use borrow.Author.Needs.{needs}
+use borrow.Author.Tests.{lt-ltb, le-ltb, ne-eqb}
+use denote.Ref.{now}
+use lib.Dec.{eqb}
+use lib.ListN.{length}
+use Rattle.lexer.specs.Text.{bytes}
+use Rattle.rules.specs.Records.{PF, IN, encode}
+use Rattle.rules.specs.Reader.{nowhere, _>>_}
+use Rattle.rules.specs.Expressions.{expr}
+use Rattle.rules.specs.Expressions.{infixes as infixesOf}
+use Rattle.parser.specs.Views.{lineOf, line, Passes, Reads}
+use Rattle.parser.specs.Operators.{numberIn}
+use Rattle.parser.proofs.Chain.{Sofar, starts, called, called-denied, comes, ends, denied, lands, writes, returns, refuses, refuses-here, is-passed, is-left, reads-done, reads-refused, hands-on}
+use Rattle.parser.proofs.Flat.{plain}
+use Rattle.parser.proofs.Steps.{has-more, one-less}
+use Rattle.parser.proofs.ExpressionsReading.{operator-inside, right-level, level-small, primary-opens, primary-signed, primary-operand, primary-no-operand, primary-atom, expr-over, expr-begins, none-left, too-loose, turns, positive}
+use Rattle.parser.proofs.ExpressionsShorter.{no-longer}
 use Prim.Native.Nat.{ℕ, _<_}
 use borrow.Fn.Kinds.{In}
 use borrow.Fn.PlainCycle.{Measures, is, falls, and}
@@ -34,19 +60,19 @@ use Rattle.parser.proofs.expressions.+expression+infixes+parenthesis+pr
 }
 
 abbrev μ-expression : Measures 2 expression-kinds.ps ℕ
-μ-expression κs a = ?
+μ-expression κs a = a .1 .1 .1 .1 .1 .0 + a .1 .1 .1 .1 .1 .0 + a .1 .1 .1 .1 .1 .0
 
 abbrev μ-infixes : Measures 2 infixes-kinds.ps ℕ
-μ-infixes κs a = ?
+μ-infixes κs a = a .1 .1 .1 .1 .1 .1 .0 + a .1 .1 .1 .1 .1 .1 .0 + a .1 .1 .1 .1 .1 .1 .0 + 1
 
 abbrev μ-parenthesis : Measures 2 parenthesis-kinds.ps ℕ
-μ-parenthesis κs a = ?
+μ-parenthesis κs a = a .1 .1 .1 .1 .0 + a .1 .1 .1 .1 .0 + a .1 .1 .1 .1 .0 + 1
 
 abbrev μ-prefixed : Measures 2 prefixed-kinds.ps ℕ
-μ-prefixed κs a = ?
+μ-prefixed κs a = a .1 .1 .1 .1 .1 .0 + a .1 .1 .1 .1 .1 .0 + a .1 .1 .1 .1 .1 .0 + 1
 
 abbrev μ-primary : Measures 2 primary-kinds.ps ℕ
-μ-primary κs a = ?
+μ-primary κs a = a .1 .1 .1 .1 .0 + a .1 .1 .1 .1 .0 + a .1 .1 .1 .1 .0 + 2
 
 abbrev expression-at : ℕ → In 2 expression-kinds.ps
 expression-at t =
@@ -83,1189 +109,318 @@ primary-at t = and 2 primary-kinds.ps (is 2 primary-kinds.ps μ-primary t) prima
 abbrev primary-below : ℕ → In 2 primary-kinds.ps
 primary-below t = and 2 primary-kinds.ps (falls 2 primary-kinds.ps _<_ μ-primary t) primary.Pre
 
--- src/expressions.rt:141:32
-expression-refuse-here-requires : (t : ℕ) → expression-lts.Need-refuse-here-requires (
-  refuse-here-reads.Asked,
-  refuse-here-reads.Learnt,
-  primary-below t,
-  primary.Post,
-  infixes-below t,
-  infixes.Post,
-) (expression-at t) expression.Post
-expression-refuse-here-requires t c κs = ?
+abbrev expression-calls : ℕ → expression-lts.Claims
+expression-calls t =
+    (refuse-here-reads.Asked, refuse-here-reads.Learnt, primary-below t, primary.Post, infixes-below t, infixes.Post)
 
--- src/expressions.rt:141:9
-expression-returns : (t : ℕ) → expression-lts.Need-returns (
-  refuse-here-reads.Asked,
-  refuse-here-reads.Learnt,
-  primary-below t,
-  primary.Post,
-  infixes-below t,
-  infixes.Post,
-) (expression-at t) expression.Post
-expression-returns t c = ?
+expression-refuse-here-requires : (t : ℕ) → expression-lts.Need-refuse-here-requires (expression-calls t) (expression-at t) expression.Post
+expression-refuse-here-requires t c κs = search needs
 
--- src/expressions.rt:143:18
-expression-sub-deeper : (t : ℕ) → expression-lts.Need-sub-deeper (
-  refuse-here-reads.Asked,
-  refuse-here-reads.Learnt,
-  primary-below t,
-  primary.Post,
-  infixes-below t,
-  infixes.Post,
-) (expression-at t) expression.Post
-expression-sub-deeper t c = ?
+expression-returns : (t : ℕ) → expression-lts.Need-returns (expression-calls t) (expression-at t) expression.Post
+expression-returns t c = reads-refused (denied (expr-over _ _ 0 [] _ (c .before .if1 .taken)) (refuses-here 3 (c .refuse-here .ensures)))
 
--- src/expressions.rt:145:11
-expression-primary-requires : (t : ℕ) → expression-lts.Need-primary-requires (
-  refuse-here-reads.Asked,
-  refuse-here-reads.Learnt,
-  primary-below t,
-  primary.Post,
-  infixes-below t,
-  infixes.Post,
-) (expression-at t) expression.Post
-expression-primary-requires t c κs = ?
+expression-sub-deeper : (t : ℕ) → expression-lts.Need-sub-deeper (expression-calls t) (expression-at t) expression.Post
+expression-sub-deeper t c = search needs
 
--- src/expressions.rt:146:25
-expression-enum-known-r : (t : ℕ) → expression-lts.Need-enum-known-r (
-  refuse-here-reads.Asked,
-  refuse-here-reads.Learnt,
-  primary-below t,
-  primary.Post,
-  infixes-below t,
-  infixes.Post,
-) (expression-at t) expression.Post
-expression-enum-known-r t c = ?
+expression-primary-requires : (t : ℕ) → expression-lts.Need-primary-requires (expression-calls t) (expression-at t) expression.Post
+expression-primary-requires t c κs = (omega (arith, c .before .before .before .before .pre .0), c .before .before .before .before .pre .1)
 
--- src/expressions.rt:147:22
-expression-enum-known-q : (t : ℕ) → expression-lts.Need-enum-known-q (
-  refuse-here-reads.Asked,
-  refuse-here-reads.Learnt,
-  primary-below t,
-  primary.Post,
-  infixes-below t,
-  infixes.Post,
-) (expression-at t) expression.Post
-expression-enum-known-q t c = ?
+expression-enum-known-r : (t : ℕ) → expression-lts.Need-enum-known-r (expression-calls t) (expression-at t) expression.Post
+expression-enum-known-r t c = search needs
 
--- src/expressions.rt:147:31
-expression-infixes-requires : (t : ℕ) → expression-lts.Need-infixes-requires (
-  refuse-here-reads.Asked,
-  refuse-here-reads.Learnt,
-  primary-below t,
-  primary.Post,
-  infixes-below t,
-  infixes.Post,
-) (expression-at t) expression.Post
-expression-infixes-requires t c κs = ?
+expression-enum-known-q : (t : ℕ) → expression-lts.Need-enum-known-q (expression-calls t) (expression-at t) expression.Post
+expression-enum-known-q t c = search needs
 
--- src/expressions.rt:136:1
-expression-same-length : (t : ℕ) → expression-lts.Need-same-length (
-  refuse-here-reads.Asked,
-  refuse-here-reads.Learnt,
-  primary-below t,
-  primary.Post,
-  infixes-below t,
-  infixes.Post,
-) (expression-at t) expression.Post
-expression-same-length t c = ?
+expression-infixes-requires : (t : ℕ) → expression-lts.Need-infixes-requires (expression-calls t) (expression-at t) expression.Post
+expression-infixes-requires t c κs = (omega (arith, c .before .before .before .before .before .before .before .before .before .before .before .pre .0), c .before .before .before .before .before .before .before .before .before .before .before .pre .1)
 
--- src/expressions.rt:136:1
-expression-returns-2 : (t : ℕ) → expression-lts.Need-returns-2 (
-  refuse-here-reads.Asked,
-  refuse-here-reads.Learnt,
-  primary-below t,
-  primary.Post,
-  infixes-below t,
-  infixes.Post,
-) (expression-at t) expression.Post
-expression-returns-2 t c = ?
+expression-same-length : (t : ℕ) → expression-lts.Need-same-length (expression-calls t) (expression-at t) expression.Post
+expression-same-length t c = search needs
 
--- src/expressions.rt:136:1
-expression-same-length-2 : (t : ℕ) → expression-lts.Need-same-length-2 (
-  refuse-here-reads.Asked,
-  refuse-here-reads.Learnt,
-  primary-below t,
-  primary.Post,
-  infixes-below t,
-  infixes.Post,
-) (expression-at t) expression.Post
-expression-same-length-2 t c = ?
+expression-returns-2 : (t : ℕ) → expression-lts.Need-returns-2 (expression-calls t) (expression-at t) expression.Post
+unfolding _>>_
+expression-returns-2 t c = 
+    let e : c .before .before .before .before .before .before .before .before .before .before .args .left ≡ suc (c .before .before .before .before .before .before .before .before .before .before .args .left - 1) = omega arith in
+    reads-refused (called-denied _ _ (expr-begins _ _ 0 [] _ e) (subst (Reads _ _ _ _ _ _ _) (c .before .r .given .1) (c .before .before .before .before .before .primary .ensures) .so))
 
--- src/expressions.rt:136:1
-expression-returns-3 : (t : ℕ) → expression-lts.Need-returns-3 (
-  refuse-here-reads.Asked,
-  refuse-here-reads.Learnt,
-  primary-below t,
-  primary.Post,
-  infixes-below t,
-  infixes.Post,
-) (expression-at t) expression.Post
-expression-returns-3 t c = ?
+expression-same-length-2 : (t : ℕ) → expression-lts.Need-same-length-2 (expression-calls t) (expression-at t) expression.Post
+expression-same-length-2 t c = search needs
+
+expression-returns-3 : (t : ℕ) → expression-lts.Need-returns-3 (expression-calls t) (expression-at t) expression.Post
+unfolding _>>_
+expression-returns-3 t c = 
+    let e : c .before .before .before .before .before .before .before .before .before .before .before .before .before .before .args .left ≡ suc (c .before .before .before .before .before .before .before .before .before .before .before .before .before .before .args .left - 1) = omega arith in
+    hands-on (comes _ _ (called _ _ (expr-begins _ _ _ _ _ e) (subst (Reads _ _ _ _ _ _ _) (c .before .before .before .before .before .q .given .1) (c .before .before .before .before .before .before .before .before .before .primary .ensures) .so)) is-left) (c .before .before .infixes .ensures)
 
 abbrev infixes-Inv-loop : infixes-lts.InvT-loop
-infixes-Inv-loop src out₀ at level from deeper q₀ w₀ out q w = ?
+infixes-Inv-loop src out₀ at level from deeper q₀ w₀ out q w =
+    (n : ℕ)
+    × (length (lineOf src q .more) ≤ n)
+    × Sofar line src q₀ (infixesOf (length (lineOf src q₀ .more)) (expr deeper) level from) w₀ out₀ q (infixesOf n (expr deeper) level from) w out
 
 abbrev infixes-μ-loop : infixes-lts.MeasureT-loop
-infixes-μ-loop src out₀ at level from deeper q₀ w₀ out q w = ?
-
--- src/expressions.rt:220:5
-infixes-loop-holds : (t : ℕ) → infixes-lts.Need-loop-holds (
-  operator-of-reads.Asked,
-  operator-of-reads.Learnt,
-  infix-level-reads.Asked,
-  infix-level-reads.Learnt,
-  next-reads.Asked,
-  next-reads.Learnt,
-  expression-below t,
-  expression.Post,
-  number-reads.Asked,
-  number-reads.Learnt,
-  put-record-reads.Asked,
-  put-record-reads.Learnt,
-) (infixes-at t) infixes.Post infixes-Inv-loop infixes-μ-loop
-infixes-loop-holds t c = ?
-
--- src/expressions.rt:222:15
-infixes-operator-of-requires : (t : ℕ) → infixes-lts.Need-operator-of-requires (
-  operator-of-reads.Asked,
-  operator-of-reads.Learnt,
-  infix-level-reads.Asked,
-  infix-level-reads.Learnt,
-  next-reads.Asked,
-  next-reads.Learnt,
-  expression-below t,
-  expression.Post,
-  number-reads.Asked,
-  number-reads.Learnt,
-  put-record-reads.Asked,
-  put-record-reads.Learnt,
-) (infixes-at t) infixes.Post infixes-Inv-loop infixes-μ-loop
-infixes-operator-of-requires t c κs = ?
-
--- src/expressions.rt:224:17
-infixes-enum-told : (t : ℕ) → infixes-lts.Need-enum-told (
-  operator-of-reads.Asked,
-  operator-of-reads.Learnt,
-  infix-level-reads.Asked,
-  infix-level-reads.Learnt,
-  next-reads.Asked,
-  next-reads.Learnt,
-  expression-below t,
-  expression.Post,
-  number-reads.Asked,
-  number-reads.Learnt,
-  put-record-reads.Asked,
-  put-record-reads.Learnt,
-) (infixes-at t) infixes.Post infixes-Inv-loop infixes-μ-loop
-infixes-enum-told t c = ?
-
--- src/expressions.rt:224:17
-infixes-same-length : (t : ℕ) → infixes-lts.Need-same-length (
-  operator-of-reads.Asked,
-  operator-of-reads.Learnt,
-  infix-level-reads.Asked,
-  infix-level-reads.Learnt,
-  next-reads.Asked,
-  next-reads.Learnt,
-  expression-below t,
-  expression.Post,
-  number-reads.Asked,
-  number-reads.Learnt,
-  put-record-reads.Asked,
-  put-record-reads.Learnt,
-) (infixes-at t) infixes.Post infixes-Inv-loop infixes-μ-loop
-infixes-same-length t c = ?
-
--- src/expressions.rt:224:17
-infixes-returns : (t : ℕ) → infixes-lts.Need-returns (
-  operator-of-reads.Asked,
-  operator-of-reads.Learnt,
-  infix-level-reads.Asked,
-  infix-level-reads.Learnt,
-  next-reads.Asked,
-  next-reads.Learnt,
-  expression-below t,
-  expression.Post,
-  number-reads.Asked,
-  number-reads.Learnt,
-  put-record-reads.Asked,
-  put-record-reads.Learnt,
-) (infixes-at t) infixes.Post infixes-Inv-loop infixes-μ-loop
-infixes-returns t c = ?
-
--- src/expressions.rt:226:31
-infixes-enum-known-op : (t : ℕ) → infixes-lts.Need-enum-known-op (
-  operator-of-reads.Asked,
-  operator-of-reads.Learnt,
-  infix-level-reads.Asked,
-  infix-level-reads.Learnt,
-  next-reads.Asked,
-  next-reads.Learnt,
-  expression-below t,
-  expression.Post,
-  number-reads.Asked,
-  number-reads.Learnt,
-  put-record-reads.Asked,
-  put-record-reads.Learnt,
-) (infixes-at t) infixes.Post infixes-Inv-loop infixes-μ-loop
-infixes-enum-known-op t c = ?
-
--- src/expressions.rt:227:21
-infixes-infix-level-requires : (t : ℕ) → infixes-lts.Need-infix-level-requires (
-  operator-of-reads.Asked,
-  operator-of-reads.Learnt,
-  infix-level-reads.Asked,
-  infix-level-reads.Learnt,
-  next-reads.Asked,
-  next-reads.Learnt,
-  expression-below t,
-  expression.Post,
-  number-reads.Asked,
-  number-reads.Learnt,
-  put-record-reads.Asked,
-  put-record-reads.Learnt,
-) (infixes-at t) infixes.Post infixes-Inv-loop infixes-μ-loop
-infixes-infix-level-requires t c κs = ?
-
--- src/expressions.rt:229:21
-infixes-same-length-2 : (t : ℕ) → infixes-lts.Need-same-length-2 (
-  operator-of-reads.Asked,
-  operator-of-reads.Learnt,
-  infix-level-reads.Asked,
-  infix-level-reads.Learnt,
-  next-reads.Asked,
-  next-reads.Learnt,
-  expression-below t,
-  expression.Post,
-  number-reads.Asked,
-  number-reads.Learnt,
-  put-record-reads.Asked,
-  put-record-reads.Learnt,
-) (infixes-at t) infixes.Post infixes-Inv-loop infixes-μ-loop
-infixes-same-length-2 t c = ?
-
--- src/expressions.rt:229:21
-infixes-returns-2 : (t : ℕ) → infixes-lts.Need-returns-2 (
-  operator-of-reads.Asked,
-  operator-of-reads.Learnt,
-  infix-level-reads.Asked,
-  infix-level-reads.Learnt,
-  next-reads.Asked,
-  next-reads.Learnt,
-  expression-below t,
-  expression.Post,
-  number-reads.Asked,
-  number-reads.Learnt,
-  put-record-reads.Asked,
-  put-record-reads.Learnt,
-) (infixes-at t) infixes.Post infixes-Inv-loop infixes-μ-loop
-infixes-returns-2 t c = ?
-
--- src/expressions.rt:231:23
-infixes-next-requires : (t : ℕ) → infixes-lts.Need-next-requires (
-  operator-of-reads.Asked,
-  operator-of-reads.Learnt,
-  infix-level-reads.Asked,
-  infix-level-reads.Learnt,
-  next-reads.Asked,
-  next-reads.Learnt,
-  expression-below t,
-  expression.Post,
-  number-reads.Asked,
-  number-reads.Learnt,
-  put-record-reads.Asked,
-  put-record-reads.Learnt,
-) (infixes-at t) infixes.Post infixes-Inv-loop infixes-μ-loop
-infixes-next-requires t c κs = ?
-
--- src/expressions.rt:232:35
-infixes-enum-known-r : (t : ℕ) → infixes-lts.Need-enum-known-r (
-  operator-of-reads.Asked,
-  operator-of-reads.Learnt,
-  infix-level-reads.Asked,
-  infix-level-reads.Learnt,
-  next-reads.Asked,
-  next-reads.Learnt,
-  expression-below t,
-  expression.Post,
-  number-reads.Asked,
-  number-reads.Learnt,
-  put-record-reads.Asked,
-  put-record-reads.Learnt,
-) (infixes-at t) infixes.Post infixes-Inv-loop infixes-μ-loop
-infixes-enum-known-r t c = ?
-
--- src/expressions.rt:233:25
-infixes-same-length-3 : (t : ℕ) → infixes-lts.Need-same-length-3 (
-  operator-of-reads.Asked,
-  operator-of-reads.Learnt,
-  infix-level-reads.Asked,
-  infix-level-reads.Learnt,
-  next-reads.Asked,
-  next-reads.Learnt,
-  expression-below t,
-  expression.Post,
-  number-reads.Asked,
-  number-reads.Learnt,
-  put-record-reads.Asked,
-  put-record-reads.Learnt,
-) (infixes-at t) infixes.Post infixes-Inv-loop infixes-μ-loop
-infixes-same-length-3 t c = ?
-
--- src/expressions.rt:233:25
-infixes-returns-3 : (t : ℕ) → infixes-lts.Need-returns-3 (
-  operator-of-reads.Asked,
-  operator-of-reads.Learnt,
-  infix-level-reads.Asked,
-  infix-level-reads.Learnt,
-  next-reads.Asked,
-  next-reads.Learnt,
-  expression-below t,
-  expression.Post,
-  number-reads.Asked,
-  number-reads.Learnt,
-  put-record-reads.Asked,
-  put-record-reads.Learnt,
-) (infixes-at t) infixes.Post infixes-Inv-loop infixes-μ-loop
-infixes-returns-3 t c = ?
-
--- src/expressions.rt:235:33
-infixes-enum-known-behind : (t : ℕ) → infixes-lts.Need-enum-known-behind (
-  operator-of-reads.Asked,
-  operator-of-reads.Learnt,
-  infix-level-reads.Asked,
-  infix-level-reads.Learnt,
-  next-reads.Asked,
-  next-reads.Learnt,
-  expression-below t,
-  expression.Post,
-  number-reads.Asked,
-  number-reads.Learnt,
-  put-record-reads.Asked,
-  put-record-reads.Learnt,
-) (infixes-at t) infixes.Post infixes-Inv-loop infixes-μ-loop
-infixes-enum-known-behind t c = ?
-
--- src/expressions.rt:240:25
-infixes-add-expression : (t : ℕ) → infixes-lts.Need-add-expression (
-  operator-of-reads.Asked,
-  operator-of-reads.Learnt,
-  infix-level-reads.Asked,
-  infix-level-reads.Learnt,
-  next-reads.Asked,
-  next-reads.Learnt,
-  expression-below t,
-  expression.Post,
-  number-reads.Asked,
-  number-reads.Learnt,
-  put-record-reads.Asked,
-  put-record-reads.Learnt,
-) (infixes-at t) infixes.Post infixes-Inv-loop infixes-μ-loop
-infixes-add-expression t c = ?
-
--- src/expressions.rt:235:50
-infixes-expression-requires : (t : ℕ) → infixes-lts.Need-expression-requires (
-  operator-of-reads.Asked,
-  operator-of-reads.Learnt,
-  infix-level-reads.Asked,
-  infix-level-reads.Learnt,
-  next-reads.Asked,
-  next-reads.Learnt,
-  expression-below t,
-  expression.Post,
-  number-reads.Asked,
-  number-reads.Learnt,
-  put-record-reads.Asked,
-  put-record-reads.Learnt,
-) (infixes-at t) infixes.Post infixes-Inv-loop infixes-μ-loop
-infixes-expression-requires t c κs = ?
-
--- src/expressions.rt:243:41
-infixes-enum-known-r-2 : (t : ℕ) → infixes-lts.Need-enum-known-r-2 (
-  operator-of-reads.Asked,
-  operator-of-reads.Learnt,
-  infix-level-reads.Asked,
-  infix-level-reads.Learnt,
-  next-reads.Asked,
-  next-reads.Learnt,
-  expression-below t,
-  expression.Post,
-  number-reads.Asked,
-  number-reads.Learnt,
-  put-record-reads.Asked,
-  put-record-reads.Learnt,
-) (infixes-at t) infixes.Post infixes-Inv-loop infixes-μ-loop
-infixes-enum-known-r-2 t c = ?
-
--- src/expressions.rt:244:29
-infixes-same-length-4 : (t : ℕ) → infixes-lts.Need-same-length-4 (
-  operator-of-reads.Asked,
-  operator-of-reads.Learnt,
-  infix-level-reads.Asked,
-  infix-level-reads.Learnt,
-  next-reads.Asked,
-  next-reads.Learnt,
-  expression-below t,
-  expression.Post,
-  number-reads.Asked,
-  number-reads.Learnt,
-  put-record-reads.Asked,
-  put-record-reads.Learnt,
-) (infixes-at t) infixes.Post infixes-Inv-loop infixes-μ-loop
-infixes-same-length-4 t c = ?
-
--- src/expressions.rt:244:29
-infixes-returns-4 : (t : ℕ) → infixes-lts.Need-returns-4 (
-  operator-of-reads.Asked,
-  operator-of-reads.Learnt,
-  infix-level-reads.Asked,
-  infix-level-reads.Learnt,
-  next-reads.Asked,
-  next-reads.Learnt,
-  expression-below t,
-  expression.Post,
-  number-reads.Asked,
-  number-reads.Learnt,
-  put-record-reads.Asked,
-  put-record-reads.Learnt,
-) (infixes-at t) infixes.Post infixes-Inv-loop infixes-μ-loop
-infixes-returns-4 t c = ?
-
--- src/expressions.rt:246:38
-infixes-enum-known-right : (t : ℕ) → infixes-lts.Need-enum-known-right (
-  operator-of-reads.Asked,
-  operator-of-reads.Learnt,
-  infix-level-reads.Asked,
-  infix-level-reads.Learnt,
-  next-reads.Asked,
-  next-reads.Learnt,
-  expression-below t,
-  expression.Post,
-  number-reads.Asked,
-  number-reads.Learnt,
-  put-record-reads.Asked,
-  put-record-reads.Learnt,
-) (infixes-at t) infixes.Post infixes-Inv-loop infixes-μ-loop
-infixes-enum-known-right t c = ?
-
--- src/expressions.rt:248:87
-infixes-number-requires : (t : ℕ) → infixes-lts.Need-number-requires (
-  operator-of-reads.Asked,
-  operator-of-reads.Learnt,
-  infix-level-reads.Asked,
-  infix-level-reads.Learnt,
-  next-reads.Asked,
-  next-reads.Learnt,
-  expression-below t,
-  expression.Post,
-  number-reads.Asked,
-  number-reads.Learnt,
-  put-record-reads.Asked,
-  put-record-reads.Learnt,
-) (infixes-at t) infixes.Post infixes-Inv-loop infixes-μ-loop
-infixes-number-requires t c κs = ?
-
--- src/expressions.rt:248:33
-infixes-put-record-requires : (t : ℕ) → infixes-lts.Need-put-record-requires (
-  operator-of-reads.Asked,
-  operator-of-reads.Learnt,
-  infix-level-reads.Asked,
-  infix-level-reads.Learnt,
-  next-reads.Asked,
-  next-reads.Learnt,
-  expression-below t,
-  expression.Post,
-  number-reads.Asked,
-  number-reads.Learnt,
-  put-record-reads.Asked,
-  put-record-reads.Learnt,
-) (infixes-at t) infixes.Post infixes-Inv-loop infixes-μ-loop
-infixes-put-record-requires t c κs = ?
-
--- src/expressions.rt:220:5
-infixes-loop-less : (t : ℕ) → infixes-lts.Need-loop-less (
-  operator-of-reads.Asked,
-  operator-of-reads.Learnt,
-  infix-level-reads.Asked,
-  infix-level-reads.Learnt,
-  next-reads.Asked,
-  next-reads.Learnt,
-  expression-below t,
-  expression.Post,
-  number-reads.Asked,
-  number-reads.Learnt,
-  put-record-reads.Asked,
-  put-record-reads.Learnt,
-) (infixes-at t) infixes.Post infixes-Inv-loop infixes-μ-loop
-infixes-loop-less t c = ?
-
--- src/expressions.rt:220:5
-infixes-loop-again : (t : ℕ) → infixes-lts.Need-loop-again (
-  operator-of-reads.Asked,
-  operator-of-reads.Learnt,
-  infix-level-reads.Asked,
-  infix-level-reads.Learnt,
-  next-reads.Asked,
-  next-reads.Learnt,
-  expression-below t,
-  expression.Post,
-  number-reads.Asked,
-  number-reads.Learnt,
-  put-record-reads.Asked,
-  put-record-reads.Learnt,
-) (infixes-at t) infixes.Post infixes-Inv-loop infixes-μ-loop
-infixes-loop-again t c = ?
-
--- src/expressions.rt:171:11
-parenthesis-next-requires : (t : ℕ) → parenthesis-lts.Need-next-requires (
-  next-reads.Asked,
-  next-reads.Learnt,
-  expression-below t,
-  expression.Post,
-  expect-reads.Asked,
-  expect-reads.Learnt,
-) (parenthesis-at t) parenthesis.Post
-parenthesis-next-requires t c κs = ?
-
--- src/expressions.rt:172:23
-parenthesis-enum-known-r : (t : ℕ) → parenthesis-lts.Need-enum-known-r (
-  next-reads.Asked,
-  next-reads.Learnt,
-  expression-below t,
-  expression.Post,
-  expect-reads.Asked,
-  expect-reads.Learnt,
-) (parenthesis-at t) parenthesis.Post
-parenthesis-enum-known-r t c = ?
-
--- src/expressions.rt:173:21
-parenthesis-enum-known-q : (t : ℕ) → parenthesis-lts.Need-enum-known-q (
-  next-reads.Asked,
-  next-reads.Learnt,
-  expression-below t,
-  expression.Post,
-  expect-reads.Asked,
-  expect-reads.Learnt,
-) (parenthesis-at t) parenthesis.Post
-parenthesis-enum-known-q t c = ?
-
--- src/expressions.rt:173:33
-parenthesis-expression-requires : (t : ℕ) → parenthesis-lts.Need-expression-requires (
-  next-reads.Asked,
-  next-reads.Learnt,
-  expression-below t,
-  expression.Post,
-  expect-reads.Asked,
-  expect-reads.Learnt,
-) (parenthesis-at t) parenthesis.Post
-parenthesis-expression-requires t c κs = ?
-
--- src/expressions.rt:174:29
-parenthesis-enum-known-r-2 : (t : ℕ) → parenthesis-lts.Need-enum-known-r-2 (
-  next-reads.Asked,
-  next-reads.Learnt,
-  expression-below t,
-  expression.Post,
-  expect-reads.Asked,
-  expect-reads.Learnt,
-) (parenthesis-at t) parenthesis.Post
-parenthesis-enum-known-r-2 t c = ?
-
--- src/expressions.rt:175:26
-parenthesis-enum-known-inner : (t : ℕ) → parenthesis-lts.Need-enum-known-inner (
-  next-reads.Asked,
-  next-reads.Learnt,
-  expression-below t,
-  expression.Post,
-  expect-reads.Asked,
-  expect-reads.Learnt,
-) (parenthesis-at t) parenthesis.Post
-parenthesis-enum-known-inner t c = ?
-
--- src/expressions.rt:175:45
-parenthesis-expect-requires : (t : ℕ) → parenthesis-lts.Need-expect-requires (
-  next-reads.Asked,
-  next-reads.Learnt,
-  expression-below t,
-  expression.Post,
-  expect-reads.Asked,
-  expect-reads.Learnt,
-) (parenthesis-at t) parenthesis.Post
-parenthesis-expect-requires t c κs = ?
-
--- src/expressions.rt:176:31
-parenthesis-enum-known-r-3 : (t : ℕ) → parenthesis-lts.Need-enum-known-r-3 (
-  next-reads.Asked,
-  next-reads.Learnt,
-  expression-below t,
-  expression.Post,
-  expect-reads.Asked,
-  expect-reads.Learnt,
-) (parenthesis-at t) parenthesis.Post
-parenthesis-enum-known-r-3 t c = ?
-
--- src/expressions.rt:177:29
-parenthesis-enum-known-after : (t : ℕ) → parenthesis-lts.Need-enum-known-after (
-  next-reads.Asked,
-  next-reads.Learnt,
-  expression-below t,
-  expression.Post,
-  expect-reads.Asked,
-  expect-reads.Learnt,
-) (parenthesis-at t) parenthesis.Post
-parenthesis-enum-known-after t c = ?
-
--- src/expressions.rt:167:1
-parenthesis-returns : (t : ℕ) → parenthesis-lts.Need-returns (
-  next-reads.Asked,
-  next-reads.Learnt,
-  expression-below t,
-  expression.Post,
-  expect-reads.Asked,
-  expect-reads.Learnt,
-) (parenthesis-at t) parenthesis.Post
-parenthesis-returns t c = ?
-
--- src/expressions.rt:167:1
-parenthesis-same-length : (t : ℕ) → parenthesis-lts.Need-same-length (
-  next-reads.Asked,
-  next-reads.Learnt,
-  expression-below t,
-  expression.Post,
-  expect-reads.Asked,
-  expect-reads.Learnt,
-) (parenthesis-at t) parenthesis.Post
-parenthesis-same-length t c = ?
-
--- src/expressions.rt:167:1
-parenthesis-returns-2 : (t : ℕ) → parenthesis-lts.Need-returns-2 (
-  next-reads.Asked,
-  next-reads.Learnt,
-  expression-below t,
-  expression.Post,
-  expect-reads.Asked,
-  expect-reads.Learnt,
-) (parenthesis-at t) parenthesis.Post
-parenthesis-returns-2 t c = ?
-
--- src/expressions.rt:167:1
-parenthesis-same-length-2 : (t : ℕ) → parenthesis-lts.Need-same-length-2 (
-  next-reads.Asked,
-  next-reads.Learnt,
-  expression-below t,
-  expression.Post,
-  expect-reads.Asked,
-  expect-reads.Learnt,
-) (parenthesis-at t) parenthesis.Post
-parenthesis-same-length-2 t c = ?
-
--- src/expressions.rt:167:1
-parenthesis-returns-3 : (t : ℕ) → parenthesis-lts.Need-returns-3 (
-  next-reads.Asked,
-  next-reads.Learnt,
-  expression-below t,
-  expression.Post,
-  expect-reads.Asked,
-  expect-reads.Learnt,
-) (parenthesis-at t) parenthesis.Post
-parenthesis-returns-3 t c = ?
-
--- src/expressions.rt:167:1
-parenthesis-same-length-3 : (t : ℕ) → parenthesis-lts.Need-same-length-3 (
-  next-reads.Asked,
-  next-reads.Learnt,
-  expression-below t,
-  expression.Post,
-  expect-reads.Asked,
-  expect-reads.Learnt,
-) (parenthesis-at t) parenthesis.Post
-parenthesis-same-length-3 t c = ?
-
--- src/expressions.rt:167:1
-parenthesis-returns-4 : (t : ℕ) → parenthesis-lts.Need-returns-4 (
-  next-reads.Asked,
-  next-reads.Learnt,
-  expression-below t,
-  expression.Post,
-  expect-reads.Asked,
-  expect-reads.Learnt,
-) (parenthesis-at t) parenthesis.Post
-parenthesis-returns-4 t c = ?
-
--- src/expressions.rt:189:11
-prefixed-next-requires : (t : ℕ) → prefixed-lts.Need-next-requires (
-  next-reads.Asked,
-  next-reads.Learnt,
-  prefix-level-reads.Asked,
-  prefix-level-reads.Learnt,
-  refused-at-reads.Asked,
-  refused-at-reads.Learnt,
-  expression-below t,
-  expression.Post,
-  number-reads.Asked,
-  number-reads.Learnt,
-  put-record-reads.Asked,
-  put-record-reads.Learnt,
-) (prefixed-at t) prefixed.Post
-prefixed-next-requires t c κs = ?
-
--- src/expressions.rt:190:23
-prefixed-enum-known-r : (t : ℕ) → prefixed-lts.Need-enum-known-r (
-  next-reads.Asked,
-  next-reads.Learnt,
-  prefix-level-reads.Asked,
-  prefix-level-reads.Learnt,
-  refused-at-reads.Asked,
-  refused-at-reads.Learnt,
-  expression-below t,
-  expression.Post,
-  number-reads.Asked,
-  number-reads.Learnt,
-  put-record-reads.Asked,
-  put-record-reads.Learnt,
-) (prefixed-at t) prefixed.Post
-prefixed-enum-known-r t c = ?
-
--- src/expressions.rt:191:21
-prefixed-enum-known-q : (t : ℕ) → prefixed-lts.Need-enum-known-q (
-  next-reads.Asked,
-  next-reads.Learnt,
-  prefix-level-reads.Asked,
-  prefix-level-reads.Learnt,
-  refused-at-reads.Asked,
-  refused-at-reads.Learnt,
-  expression-below t,
-  expression.Post,
-  number-reads.Asked,
-  number-reads.Learnt,
-  put-record-reads.Asked,
-  put-record-reads.Learnt,
-) (prefixed-at t) prefixed.Post
-prefixed-enum-known-q t c = ?
-
--- src/expressions.rt:191:33
-prefixed-prefix-level-requires : (t : ℕ) → prefixed-lts.Need-prefix-level-requires (
-  next-reads.Asked,
-  next-reads.Learnt,
-  prefix-level-reads.Asked,
-  prefix-level-reads.Learnt,
-  refused-at-reads.Asked,
-  refused-at-reads.Learnt,
-  expression-below t,
-  expression.Post,
-  number-reads.Asked,
-  number-reads.Learnt,
-  put-record-reads.Asked,
-  put-record-reads.Learnt,
-) (prefixed-at t) prefixed.Post
-prefixed-prefix-level-requires t c κs = ?
-
--- src/expressions.rt:192:53
-prefixed-enum-told : (t : ℕ) → prefixed-lts.Need-enum-told (
-  next-reads.Asked,
-  next-reads.Learnt,
-  prefix-level-reads.Asked,
-  prefix-level-reads.Learnt,
-  refused-at-reads.Asked,
-  refused-at-reads.Learnt,
-  expression-below t,
-  expression.Post,
-  number-reads.Asked,
-  number-reads.Learnt,
-  put-record-reads.Asked,
-  put-record-reads.Learnt,
-) (prefixed-at t) prefixed.Post
-prefixed-enum-told t c = ?
-
--- src/expressions.rt:192:53
-prefixed-refused-at-requires : (t : ℕ) → prefixed-lts.Need-refused-at-requires (
-  next-reads.Asked,
-  next-reads.Learnt,
-  prefix-level-reads.Asked,
-  prefix-level-reads.Learnt,
-  refused-at-reads.Asked,
-  refused-at-reads.Learnt,
-  expression-below t,
-  expression.Post,
-  number-reads.Asked,
-  number-reads.Learnt,
-  put-record-reads.Asked,
-  put-record-reads.Learnt,
-) (prefixed-at t) prefixed.Post
-prefixed-refused-at-requires t c κs = ?
-
--- src/expressions.rt:193:32
-prefixed-enum-known-level : (t : ℕ) → prefixed-lts.Need-enum-known-level (
-  next-reads.Asked,
-  next-reads.Learnt,
-  prefix-level-reads.Asked,
-  prefix-level-reads.Learnt,
-  refused-at-reads.Asked,
-  refused-at-reads.Learnt,
-  expression-below t,
-  expression.Post,
-  number-reads.Asked,
-  number-reads.Learnt,
-  put-record-reads.Asked,
-  put-record-reads.Learnt,
-) (prefixed-at t) prefixed.Post
-prefixed-enum-known-level t c = ?
-
--- src/expressions.rt:193:48
-prefixed-expression-requires : (t : ℕ) → prefixed-lts.Need-expression-requires (
-  next-reads.Asked,
-  next-reads.Learnt,
-  prefix-level-reads.Asked,
-  prefix-level-reads.Learnt,
-  refused-at-reads.Asked,
-  refused-at-reads.Learnt,
-  expression-below t,
-  expression.Post,
-  number-reads.Asked,
-  number-reads.Learnt,
-  put-record-reads.Asked,
-  put-record-reads.Learnt,
-) (prefixed-at t) prefixed.Post
-prefixed-expression-requires t c κs = ?
-
--- src/expressions.rt:194:33
-prefixed-enum-known-r-2 : (t : ℕ) → prefixed-lts.Need-enum-known-r-2 (
-  next-reads.Asked,
-  next-reads.Learnt,
-  prefix-level-reads.Asked,
-  prefix-level-reads.Learnt,
-  refused-at-reads.Asked,
-  refused-at-reads.Learnt,
-  expression-below t,
-  expression.Post,
-  number-reads.Asked,
-  number-reads.Learnt,
-  put-record-reads.Asked,
-  put-record-reads.Learnt,
-) (prefixed-at t) prefixed.Post
-prefixed-enum-known-r-2 t c = ?
-
--- src/expressions.rt:195:30
-prefixed-enum-known-inner : (t : ℕ) → prefixed-lts.Need-enum-known-inner (
-  next-reads.Asked,
-  next-reads.Learnt,
-  prefix-level-reads.Asked,
-  prefix-level-reads.Learnt,
-  refused-at-reads.Asked,
-  refused-at-reads.Learnt,
-  expression-below t,
-  expression.Post,
-  number-reads.Asked,
-  number-reads.Learnt,
-  put-record-reads.Asked,
-  put-record-reads.Learnt,
-) (prefixed-at t) prefixed.Post
-prefixed-enum-known-inner t c = ?
-
--- src/expressions.rt:197:79
-prefixed-number-requires : (t : ℕ) → prefixed-lts.Need-number-requires (
-  next-reads.Asked,
-  next-reads.Learnt,
-  prefix-level-reads.Asked,
-  prefix-level-reads.Learnt,
-  refused-at-reads.Asked,
-  refused-at-reads.Learnt,
-  expression-below t,
-  expression.Post,
-  number-reads.Asked,
-  number-reads.Learnt,
-  put-record-reads.Asked,
-  put-record-reads.Learnt,
-) (prefixed-at t) prefixed.Post
-prefixed-number-requires t c κs = ?
-
--- src/expressions.rt:197:25
-prefixed-put-record-requires : (t : ℕ) → prefixed-lts.Need-put-record-requires (
-  next-reads.Asked,
-  next-reads.Learnt,
-  prefix-level-reads.Asked,
-  prefix-level-reads.Learnt,
-  refused-at-reads.Asked,
-  refused-at-reads.Learnt,
-  expression-below t,
-  expression.Post,
-  number-reads.Asked,
-  number-reads.Learnt,
-  put-record-reads.Asked,
-  put-record-reads.Learnt,
-) (prefixed-at t) prefixed.Post
-prefixed-put-record-requires t c κs = ?
-
--- src/expressions.rt:184:1
-prefixed-returns : (t : ℕ) → prefixed-lts.Need-returns (
-  next-reads.Asked,
-  next-reads.Learnt,
-  prefix-level-reads.Asked,
-  prefix-level-reads.Learnt,
-  refused-at-reads.Asked,
-  refused-at-reads.Learnt,
-  expression-below t,
-  expression.Post,
-  number-reads.Asked,
-  number-reads.Learnt,
-  put-record-reads.Asked,
-  put-record-reads.Learnt,
-) (prefixed-at t) prefixed.Post
-prefixed-returns t c = ?
-
--- src/expressions.rt:184:1
-prefixed-returns-2 : (t : ℕ) → prefixed-lts.Need-returns-2 (
-  next-reads.Asked,
-  next-reads.Learnt,
-  prefix-level-reads.Asked,
-  prefix-level-reads.Learnt,
-  refused-at-reads.Asked,
-  refused-at-reads.Learnt,
-  expression-below t,
-  expression.Post,
-  number-reads.Asked,
-  number-reads.Learnt,
-  put-record-reads.Asked,
-  put-record-reads.Learnt,
-) (prefixed-at t) prefixed.Post
-prefixed-returns-2 t c = ?
-
--- src/expressions.rt:184:1
-prefixed-same-length : (t : ℕ) → prefixed-lts.Need-same-length (
-  next-reads.Asked,
-  next-reads.Learnt,
-  prefix-level-reads.Asked,
-  prefix-level-reads.Learnt,
-  refused-at-reads.Asked,
-  refused-at-reads.Learnt,
-  expression-below t,
-  expression.Post,
-  number-reads.Asked,
-  number-reads.Learnt,
-  put-record-reads.Asked,
-  put-record-reads.Learnt,
-) (prefixed-at t) prefixed.Post
-prefixed-same-length t c = ?
-
--- src/expressions.rt:184:1
-prefixed-returns-3 : (t : ℕ) → prefixed-lts.Need-returns-3 (
-  next-reads.Asked,
-  next-reads.Learnt,
-  prefix-level-reads.Asked,
-  prefix-level-reads.Learnt,
-  refused-at-reads.Asked,
-  refused-at-reads.Learnt,
-  expression-below t,
-  expression.Post,
-  number-reads.Asked,
-  number-reads.Learnt,
-  put-record-reads.Asked,
-  put-record-reads.Learnt,
-) (prefixed-at t) prefixed.Post
-prefixed-returns-3 t c = ?
-
--- src/expressions.rt:184:1
-prefixed-same-length-2 : (t : ℕ) → prefixed-lts.Need-same-length-2 (
-  next-reads.Asked,
-  next-reads.Learnt,
-  prefix-level-reads.Asked,
-  prefix-level-reads.Learnt,
-  refused-at-reads.Asked,
-  refused-at-reads.Learnt,
-  expression-below t,
-  expression.Post,
-  number-reads.Asked,
-  number-reads.Learnt,
-  put-record-reads.Asked,
-  put-record-reads.Learnt,
-) (prefixed-at t) prefixed.Post
-prefixed-same-length-2 t c = ?
-
--- src/expressions.rt:184:1
-prefixed-returns-4 : (t : ℕ) → prefixed-lts.Need-returns-4 (
-  next-reads.Asked,
-  next-reads.Learnt,
-  prefix-level-reads.Asked,
-  prefix-level-reads.Learnt,
-  refused-at-reads.Asked,
-  refused-at-reads.Learnt,
-  expression-below t,
-  expression.Post,
-  number-reads.Asked,
-  number-reads.Learnt,
-  put-record-reads.Asked,
-  put-record-reads.Learnt,
-) (prefixed-at t) prefixed.Post
-prefixed-returns-4 t c = ?
-
--- src/expressions.rt:158:9
-primary-parenthesis-requires : (t : ℕ) → primary-lts.Need-parenthesis-requires (
-  parenthesis-below t,
-  parenthesis.Post,
-  operator-of-reads.Asked,
-  operator-of-reads.Learnt,
-  prefixed-below t,
-  prefixed.Post,
-  atom-reads.Asked,
-  atom-reads.Learnt,
-) (primary-at t) primary.Post
-primary-parenthesis-requires t c κs = ?
-
--- src/expressions.rt:158:9
-primary-same-length : (t : ℕ) → primary-lts.Need-same-length (
-  parenthesis-below t,
-  parenthesis.Post,
-  operator-of-reads.Asked,
-  operator-of-reads.Learnt,
-  prefixed-below t,
-  prefixed.Post,
-  atom-reads.Asked,
-  atom-reads.Learnt,
-) (primary-at t) primary.Post
-primary-same-length t c = ?
-
--- src/expressions.rt:158:9
-primary-returns : (t : ℕ) → primary-lts.Need-returns (
-  parenthesis-below t,
-  parenthesis.Post,
-  operator-of-reads.Asked,
-  operator-of-reads.Learnt,
-  prefixed-below t,
-  prefixed.Post,
-  atom-reads.Asked,
-  atom-reads.Learnt,
-) (primary-at t) primary.Post
-primary-returns t c = ?
-
--- src/expressions.rt:160:11
-primary-operator-of-requires : (t : ℕ) → primary-lts.Need-operator-of-requires (
-  parenthesis-below t,
-  parenthesis.Post,
-  operator-of-reads.Asked,
-  operator-of-reads.Learnt,
-  prefixed-below t,
-  prefixed.Post,
-  atom-reads.Asked,
-  atom-reads.Learnt,
-) (primary-at t) primary.Post
-primary-operator-of-requires t c κs = ?
-
--- src/expressions.rt:161:27
-primary-enum-known-op : (t : ℕ) → primary-lts.Need-enum-known-op (
-  parenthesis-below t,
-  parenthesis.Post,
-  operator-of-reads.Asked,
-  operator-of-reads.Learnt,
-  prefixed-below t,
-  prefixed.Post,
-  atom-reads.Asked,
-  atom-reads.Learnt,
-) (primary-at t) primary.Post
-primary-enum-known-op t c = ?
-
--- src/expressions.rt:161:34
-primary-prefixed-requires : (t : ℕ) → primary-lts.Need-prefixed-requires (
-  parenthesis-below t,
-  parenthesis.Post,
-  operator-of-reads.Asked,
-  operator-of-reads.Learnt,
-  prefixed-below t,
-  prefixed.Post,
-  atom-reads.Asked,
-  atom-reads.Learnt,
-) (primary-at t) primary.Post
-primary-prefixed-requires t c κs = ?
-
--- src/expressions.rt:162:41
-primary-enum-told : (t : ℕ) → primary-lts.Need-enum-told (
-  parenthesis-below t,
-  parenthesis.Post,
-  operator-of-reads.Asked,
-  operator-of-reads.Learnt,
-  prefixed-below t,
-  prefixed.Post,
-  atom-reads.Asked,
-  atom-reads.Learnt,
-) (primary-at t) primary.Post
-primary-enum-told t c = ?
-
--- src/expressions.rt:162:31
-primary-atom-requires : (t : ℕ) → primary-lts.Need-atom-requires (
-  parenthesis-below t,
-  parenthesis.Post,
-  operator-of-reads.Asked,
-  operator-of-reads.Learnt,
-  prefixed-below t,
-  prefixed.Post,
-  atom-reads.Asked,
-  atom-reads.Learnt,
-) (primary-at t) primary.Post
-primary-atom-requires t c κs = ?
-
--- src/expressions.rt:152:1
-primary-same-length-2 : (t : ℕ) → primary-lts.Need-same-length-2 (
-  parenthesis-below t,
-  parenthesis.Post,
-  operator-of-reads.Asked,
-  operator-of-reads.Learnt,
-  prefixed-below t,
-  prefixed.Post,
-  atom-reads.Asked,
-  atom-reads.Learnt,
-) (primary-at t) primary.Post
-primary-same-length-2 t c = ?
-
--- src/expressions.rt:152:1
-primary-returns-2 : (t : ℕ) → primary-lts.Need-returns-2 (
-  parenthesis-below t,
-  parenthesis.Post,
-  operator-of-reads.Asked,
-  operator-of-reads.Learnt,
-  prefixed-below t,
-  prefixed.Post,
-  atom-reads.Asked,
-  atom-reads.Learnt,
-) (primary-at t) primary.Post
-primary-returns-2 t c = ?
-
--- src/expressions.rt:152:1
-primary-same-length-3 : (t : ℕ) → primary-lts.Need-same-length-3 (
-  parenthesis-below t,
-  parenthesis.Post,
-  operator-of-reads.Asked,
-  operator-of-reads.Learnt,
-  prefixed-below t,
-  prefixed.Post,
-  atom-reads.Asked,
-  atom-reads.Learnt,
-) (primary-at t) primary.Post
-primary-same-length-3 t c = ?
-
--- src/expressions.rt:152:1
-primary-returns-3 : (t : ℕ) → primary-lts.Need-returns-3 (
-  parenthesis-below t,
-  parenthesis.Post,
-  operator-of-reads.Asked,
-  operator-of-reads.Learnt,
-  prefixed-below t,
-  prefixed.Post,
-  atom-reads.Asked,
-  atom-reads.Learnt,
-) (primary-at t) primary.Post
-primary-returns-3 t c = ?
+infixes-μ-loop src out₀ at level from deeper q₀ w₀ out q w = length (lineOf src q .more)
+
+abbrev infixes-calls : ℕ → infixes-lts.Claims
+infixes-calls t =
+    (operator-of-reads.Asked, operator-of-reads.Learnt, infix-level-reads.Asked, infix-level-reads.Learnt, next-reads.Asked, next-reads.Learnt, expression-below t, expression.Post, number-reads.Asked, number-reads.Learnt, put-record-reads.Asked, put-record-reads.Learnt)
+
+infixes-loop-holds : (t : ℕ) → infixes-lts.Need-loop-holds (infixes-calls t) (infixes-at t) infixes.Post infixes-Inv-loop infixes-μ-loop
+infixes-loop-holds t c = (length (lineOf (now (c .before .before .args .src)) (c .before .before .args .p) .more), le-refl _, starts _ _ _ _ _ _)
+
+infixes-operator-of-requires : (t : ℕ) → infixes-lts.Need-operator-of-requires (infixes-calls t) (infixes-at t) infixes.Post infixes-Inv-loop infixes-μ-loop
+infixes-operator-of-requires t c κs = search needs
+
+infixes-enum-told : (t : ℕ) → infixes-lts.Need-enum-told (infixes-calls t) (infixes-at t) infixes.Post infixes-Inv-loop infixes-μ-loop
+infixes-enum-told t c = search needs
+
+infixes-same-length : (t : ℕ) → infixes-lts.Need-same-length (infixes-calls t) (infixes-at t) infixes.Post infixes-Inv-loop infixes-μ-loop
+infixes-same-length t c = c .before .before .before .loop .inv .2 .wrote .long
+
+infixes-returns : (t : ℕ) → infixes-lts.Need-returns (infixes-calls t) (infixes-at t) infixes.Post infixes-Inv-loop infixes-μ-loop
+infixes-returns t c = reads-done (lands (none-left _ _ _ _ _ _ (sym (c .before .before .operator-of .ensures) ∙ ap numberIn (c .enum-told .given .1)) (c .before .before .before .loop .inv .2)) (returns tt))
+
+infixes-enum-known-op : (t : ℕ) → infixes-lts.Need-enum-known-op (infixes-calls t) (infixes-at t) infixes.Post infixes-Inv-loop infixes-μ-loop
+infixes-enum-known-op t c = search needs
+
+infixes-infix-level-requires : (t : ℕ) → infixes-lts.Need-infix-level-requires (infixes-calls t) (infixes-at t) infixes.Post infixes-Inv-loop infixes-μ-loop
+infixes-infix-level-requires t c κs = search needs
+
+infixes-same-length-2 : (t : ℕ) → infixes-lts.Need-same-length-2 (infixes-calls t) (infixes-at t) infixes.Post infixes-Inv-loop infixes-μ-loop
+infixes-same-length-2 t c = c .before .before .before .before .before .before .loop .inv .2 .wrote .long
+
+infixes-returns-2 : (t : ℕ) → infixes-lts.Need-returns-2 (infixes-calls t) (infixes-at t) infixes.Post infixes-Inv-loop infixes-μ-loop
+infixes-returns-2 t c = reads-done (lands (too-loose _ _ _ _ _ (sym (c .before .before .before .before .before .operator-of .ensures) ∙ ap numberIn (c .before .before .before .op .given .1)) _ (rw (← c .before .infix-level .ensures) (lt-ltb _ _ (c .if1 .taken))) (c .before .before .before .before .before .before .loop .inv .2)) (returns tt))
+
+infixes-next-requires : (t : ℕ) → infixes-lts.Need-next-requires (infixes-calls t) (infixes-at t) infixes.Post infixes-Inv-loop infixes-μ-loop
+infixes-next-requires t c κs = let i = operator-inside _ (sym (c .before .before .before .before .before .operator-of .ensures) ∙ ap numberIn (c .before .before .before .op .given .1)) in (c .before .before .before .before .before .before .before .before .before .pre .1, i .0, i .1)
+
+infixes-enum-known-r : (t : ℕ) → infixes-lts.Need-enum-known-r (infixes-calls t) (infixes-at t) infixes.Post infixes-Inv-loop infixes-μ-loop
+infixes-enum-known-r t c = search needs
+
+infixes-same-length-3 : (t : ℕ) → infixes-lts.Need-same-length-3 (infixes-calls t) (infixes-at t) infixes.Post infixes-Inv-loop infixes-μ-loop
+infixes-same-length-3 t c = c .before .before .before .before .before .before .before .before .before .before .loop .inv .2 .wrote .long
+
+infixes-returns-3 : (t : ℕ) → infixes-lts.Need-returns-3 (infixes-calls t) (infixes-at t) infixes.Post infixes-Inv-loop infixes-μ-loop
+unfolding _>>_
+infixes-returns-3 t c = 
+    let i = operator-inside _ (sym (c .before .before .before .before .before .before .before .before .before .operator-of .ensures) ∙ ap numberIn (c .before .before .before .before .before .before .before .op .given .1)) in
+    let more = has-more (now (c .before .before .before .before .before .before .before .before .before .before .before .before .before .args .src)) (c .before .before .before .before .before .before .before .before .before .before .loop .q) (i .0) (i .1) in
+    let fuel = positive (c .before .before .before .before .before .before .before .before .before .before .loop .inv .0) (omega (arith, c .before .before .before .before .before .before .before .before .before .before .loop .inv .1)) in
+    reads-refused (called-denied _ _ (turns _ _ _ _ _ (sym (c .before .before .before .before .before .before .before .before .before .operator-of .ensures) ∙ ap numberIn (c .before .before .before .before .before .before .before .op .given .1)) (fuel .1) (rw (← c .before .before .before .before .before .infix-level .ensures) (le-ltb _ _ (c .before .before .before .before .if1 .left))) (sym (ap (λ (n : ℕ). n + 1) (c .before .before .before .before .before .infix-level .ensures) ∙ right-level (c .before .before .before .before .before .before .before .op .given .0 .0))) (c .before .before .before .before .before .before .before .before .before .before .loop .inv .2)) (subst (Passes _ _ _ _) (c .before .r .given .1) (c .before .before .before .next .ensures) .so))
+
+infixes-enum-known-behind : (t : ℕ) → infixes-lts.Need-enum-known-behind (infixes-calls t) (infixes-at t) infixes.Post infixes-Inv-loop infixes-μ-loop
+infixes-enum-known-behind t c = search needs
+
+infixes-add-expression : (t : ℕ) → infixes-lts.Need-add-expression (infixes-calls t) (infixes-at t) infixes.Post infixes-Inv-loop infixes-μ-loop
+infixes-add-expression t c = omega (arith, level-small (c .before .before .before .before .before .before .before .before .op .given .0 .0), c .before .before .before .before .before .before .infix-level .ensures)
+
+infixes-expression-requires : (t : ℕ) → infixes-lts.Need-expression-requires (infixes-calls t) (infixes-at t) infixes.Post infixes-Inv-loop infixes-μ-loop
+infixes-expression-requires t c κs = (omega (arith, c .before .before .before .before .before .before .before .before .before .before .before .before .before .before .pre .0), c .before .before .before .before .before .before .before .before .before .before .before .before .before .before .pre .1)
+
+infixes-enum-known-r-2 : (t : ℕ) → infixes-lts.Need-enum-known-r-2 (infixes-calls t) (infixes-at t) infixes.Post infixes-Inv-loop infixes-μ-loop
+infixes-enum-known-r-2 t c = search needs
+
+infixes-same-length-4 : (t : ℕ) → infixes-lts.Need-same-length-4 (infixes-calls t) (infixes-at t) infixes.Post infixes-Inv-loop infixes-μ-loop
+infixes-same-length-4 t c = c .before .before .before .before .before .expression .kept .1 .0 ∙ c .before .before .before .before .before .before .before .before .before .before .before .before .before .before .before .before .before .loop .inv .2 .wrote .long
+
+infixes-returns-4 : (t : ℕ) → infixes-lts.Need-returns-4 (infixes-calls t) (infixes-at t) infixes.Post infixes-Inv-loop infixes-μ-loop
+unfolding _>>_
+infixes-returns-4 t c = 
+    let i = operator-inside _ (sym (c .before .before .before .before .before .before .before .before .before .before .before .before .before .before .before .before .operator-of .ensures) ∙ ap numberIn (c .before .before .before .before .before .before .before .before .before .before .before .before .before .before .op .given .1)) in
+    let more = has-more (now (c .before .before .before .before .before .before .before .before .before .before .before .before .before .before .before .before .before .before .before .before .args .src)) (c .before .before .before .before .before .before .before .before .before .before .before .before .before .before .before .before .before .loop .q) (i .0) (i .1) in
+    let fuel = positive (c .before .before .before .before .before .before .before .before .before .before .before .before .before .before .before .before .before .loop .inv .0) (omega (arith, c .before .before .before .before .before .before .before .before .before .before .before .before .before .before .before .before .before .loop .inv .1)) in
+    reads-refused (called-denied _ _ (comes _ _ (turns _ _ _ _ _ (sym (c .before .before .before .before .before .before .before .before .before .before .before .before .before .before .before .before .operator-of .ensures) ∙ ap numberIn (c .before .before .before .before .before .before .before .before .before .before .before .before .before .before .op .given .1)) (fuel .1) (rw (← c .before .before .before .before .before .before .before .before .before .before .before .before .infix-level .ensures) (le-ltb _ _ (c .before .before .before .before .before .before .before .before .before .before .before .if1 .left))) (sym (ap (λ (n : ℕ). n + 1) (c .before .before .before .before .before .before .before .before .before .before .before .before .infix-level .ensures) ∙ right-level (c .before .before .before .before .before .before .before .before .before .before .before .before .before .before .op .given .0 .0))) (c .before .before .before .before .before .before .before .before .before .before .before .before .before .before .before .before .before .loop .inv .2)) (subst (Passes _ _ _ _) (c .before .before .before .before .before .before .before .before .behind .given .1) (c .before .before .before .before .before .before .before .before .before .before .next .ensures) .so)) (subst (Reads _ _ _ _ _ _ _) (c .before .r2 .given .1) (c .before .before .before .before .before .expression .ensures) .so))
+
+infixes-enum-known-right : (t : ℕ) → infixes-lts.Need-enum-known-right (infixes-calls t) (infixes-at t) infixes.Post infixes-Inv-loop infixes-μ-loop
+infixes-enum-known-right t c = search needs
+
+infixes-number-requires : (t : ℕ) → infixes-lts.Need-number-requires (infixes-calls t) (infixes-at t) infixes.Post infixes-Inv-loop infixes-μ-loop
+infixes-number-requires t c κs = search needs
+
+infixes-put-record-requires : (t : ℕ) → infixes-lts.Need-put-record-requires (infixes-calls t) (infixes-at t) infixes.Post infixes-Inv-loop infixes-μ-loop
+infixes-put-record-requires t c κs = search needs
+
+infixes-loop-less : (t : ℕ) → infixes-lts.Need-loop-less (infixes-calls t) (infixes-at t) infixes.Post infixes-Inv-loop infixes-μ-loop
+infixes-loop-less t c = 
+    let i = operator-inside _ (sym (c .before .before .before .before .before .before .before .before .before .before .before .before .before .before .before .before .before .before .before .before .before .operator-of .ensures) ∙ ap numberIn (c .before .before .before .before .before .before .before .before .before .before .before .before .before .before .before .before .before .before .before .op .given .1)) in
+    let less = one-less (now (c .before .before .before .before .before .before .before .before .before .before .before .before .before .before .before .before .before .before .before .before .before .before .before .before .before .args .src)) (c .before .before .before .before .before .before .before .before .before .before .before .before .before .before .before .before .before .before .before .before .before .before .loop .q) (i .0) (i .1) (subst (Passes _ _ _ _) (c .before .before .before .before .before .before .before .before .before .before .before .before .before .behind .given .1) (c .before .before .before .before .before .before .before .before .before .before .before .before .before .before .before .next .ensures) .so) in
+    let no-more = no-longer _ _ (subst (Reads _ _ _ _ _ _ _) (c .before .before .before .before .before .before .right .given .1) (c .before .before .before .before .before .before .before .before .before .before .expression .ensures) .so) in
+    omega arith
+
+infixes-loop-again : (t : ℕ) → infixes-lts.Need-loop-again (infixes-calls t) (infixes-at t) infixes.Post infixes-Inv-loop infixes-μ-loop
+unfolding _>>_ encode bytes
+infixes-loop-again t c = 
+    let i = operator-inside _ (sym (c .before .before .before .before .before .before .before .before .before .before .before .before .before .before .before .before .before .before .before .before .before .operator-of .ensures) ∙ ap numberIn (c .before .before .before .before .before .before .before .before .before .before .before .before .before .before .before .before .before .before .before .op .given .1)) in
+    let less = one-less (now (c .before .before .before .before .before .before .before .before .before .before .before .before .before .before .before .before .before .before .before .before .before .before .before .before .before .args .src)) (c .before .before .before .before .before .before .before .before .before .before .before .before .before .before .before .before .before .before .before .before .before .before .loop .q) (i .0) (i .1) (subst (Passes _ _ _ _) (c .before .before .before .before .before .before .before .before .before .before .before .before .before .behind .given .1) (c .before .before .before .before .before .before .before .before .before .before .before .before .before .before .before .next .ensures) .so) in
+    let no-more = no-longer _ _ (subst (Reads _ _ _ _ _ _ _) (c .before .before .before .before .before .before .right .given .1) (c .before .before .before .before .before .before .before .before .before .before .expression .ensures) .so) in
+    let more = has-more (now (c .before .before .before .before .before .before .before .before .before .before .before .before .before .before .before .before .before .before .before .before .before .before .before .before .before .args .src)) (c .before .before .before .before .before .before .before .before .before .before .before .before .before .before .before .before .before .before .before .before .before .before .loop .q) (i .0) (i .1) in
+    let fuel = positive (c .before .before .before .before .before .before .before .before .before .before .before .before .before .before .before .before .before .before .before .before .before .before .loop .inv .0) (omega (arith, c .before .before .before .before .before .before .before .before .before .before .before .before .before .before .before .before .before .before .before .before .before .before .loop .inv .1)) in
+    (fuel .0,
+     omega (arith, c .before .before .before .before .before .before .before .before .before .before .before .before .before .before .before .before .before .before .before .before .before .before .loop .inv .1, fuel .1),
+     called _ _ (comes _ _ (called _ _ (comes _ _ (turns _ _ _ _ _ (sym (c .before .before .before .before .before .before .before .before .before .before .before .before .before .before .before .before .before .before .before .before .before .operator-of .ensures) ∙ ap numberIn (c .before .before .before .before .before .before .before .before .before .before .before .before .before .before .before .before .before .before .before .op .given .1)) (fuel .1) (rw (← c .before .before .before .before .before .before .before .before .before .before .before .before .before .before .before .before .before .infix-level .ensures) (le-ltb _ _ (c .before .before .before .before .before .before .before .before .before .before .before .before .before .before .before .before .if1 .left))) (sym (ap (λ (n : ℕ). n + 1) (c .before .before .before .before .before .before .before .before .before .before .before .before .before .before .before .before .before .infix-level .ensures) ∙ right-level (c .before .before .before .before .before .before .before .before .before .before .before .before .before .before .before .before .before .before .before .op .given .0 .0))) (c .before .before .before .before .before .before .before .before .before .before .before .before .before .before .before .before .before .before .before .before .before .before .loop .inv .2)) (subst (Passes _ _ _ _) (c .before .before .before .before .before .before .before .before .before .before .before .before .before .behind .given .1) (c .before .before .before .before .before .before .before .before .before .before .before .before .before .before .before .next .ensures) .so)) (subst (Reads _ _ _ _ _ _ _) (c .before .before .before .before .before .before .right .given .1) (c .before .before .before .before .before .before .before .before .before .before .expression .ensures) .so)) is-passed) (writes (IN _ _ _) (rw (c .before .before .before .number .ensures) at (c .before .before .put-record .ensures))))
+
+abbrev parenthesis-calls : ℕ → parenthesis-lts.Claims
+parenthesis-calls t =
+    (next-reads.Asked, next-reads.Learnt, expression-below t, expression.Post, expect-reads.Asked, expect-reads.Learnt)
+
+parenthesis-next-requires : (t : ℕ) → parenthesis-lts.Need-next-requires (parenthesis-calls t) (parenthesis-at t) parenthesis.Post
+parenthesis-next-requires t c κs = (c .before .before .pre .1 .0, ap (λ (k : ℕ). eqb k 10) (c .before .before .pre .1 .1), ap (λ (k : ℕ). eqb k 0) (c .before .before .pre .1 .1))
+
+parenthesis-enum-known-r : (t : ℕ) → parenthesis-lts.Need-enum-known-r (parenthesis-calls t) (parenthesis-at t) parenthesis.Post
+parenthesis-enum-known-r t c = search needs
+
+parenthesis-enum-known-q : (t : ℕ) → parenthesis-lts.Need-enum-known-q (parenthesis-calls t) (parenthesis-at t) parenthesis.Post
+parenthesis-enum-known-q t c = search needs
+
+parenthesis-expression-requires : (t : ℕ) → parenthesis-lts.Need-expression-requires (parenthesis-calls t) (parenthesis-at t) parenthesis.Post
+parenthesis-expression-requires t c κs = (omega (arith, c .before .before .before .before .before .before .before .pre .0), c .before .before .before .before .before .before .before .pre .1 .0)
+
+parenthesis-enum-known-r-2 : (t : ℕ) → parenthesis-lts.Need-enum-known-r-2 (parenthesis-calls t) (parenthesis-at t) parenthesis.Post
+parenthesis-enum-known-r-2 t c = search needs
+
+parenthesis-enum-known-inner : (t : ℕ) → parenthesis-lts.Need-enum-known-inner (parenthesis-calls t) (parenthesis-at t) parenthesis.Post
+parenthesis-enum-known-inner t c = search needs
+
+parenthesis-expect-requires : (t : ℕ) → parenthesis-lts.Need-expect-requires (parenthesis-calls t) (parenthesis-at t) parenthesis.Post
+parenthesis-expect-requires t c κs = (c .before .before .before .before .before .before .before .before .before .before .before .before .before .pre .1 .0, refl, refl)
+
+parenthesis-enum-known-r-3 : (t : ℕ) → parenthesis-lts.Need-enum-known-r-3 (parenthesis-calls t) (parenthesis-at t) parenthesis.Post
+parenthesis-enum-known-r-3 t c = search needs
+
+parenthesis-enum-known-after : (t : ℕ) → parenthesis-lts.Need-enum-known-after (parenthesis-calls t) (parenthesis-at t) parenthesis.Post
+parenthesis-enum-known-after t c = search needs
+
+parenthesis-returns : (t : ℕ) → parenthesis-lts.Need-returns (parenthesis-calls t) (parenthesis-at t) parenthesis.Post
+unfolding _>>_
+parenthesis-returns t c = reads-refused (called-denied _ _ (primary-opens _ _ 0 [] _ (c .before .before .before .before .before .before .pre .1 .1)) (called-denied _ _ (starts _ _ _ _ 0 []) (subst (Passes _ _ _ _) (c .before .r .given .1) (c .before .before .before .next .ensures) .so)))
+
+parenthesis-same-length : (t : ℕ) → parenthesis-lts.Need-same-length (parenthesis-calls t) (parenthesis-at t) parenthesis.Post
+parenthesis-same-length t c = search needs
+
+parenthesis-returns-2 : (t : ℕ) → parenthesis-lts.Need-returns-2 (parenthesis-calls t) (parenthesis-at t) parenthesis.Post
+unfolding _>>_
+parenthesis-returns-2 t c = reads-refused (called-denied _ _ (primary-opens _ _ 0 [] _ (c .before .before .before .before .before .before .before .before .before .before .before .before .before .pre .1 .1)) (denied (comes _ _ (starts _ _ _ _ 0 []) (subst (Passes _ _ _ _) (c .before .before .before .before .before .before .before .before .q .given .1) (c .before .before .before .before .before .before .before .before .before .before .next .ensures) .so)) (subst (Reads _ _ _ _ _ _ _) (c .before .r2 .given .1) (c .before .before .before .before .before .expression .ensures) .so)))
+
+parenthesis-same-length-2 : (t : ℕ) → parenthesis-lts.Need-same-length-2 (parenthesis-calls t) (parenthesis-at t) parenthesis.Post
+parenthesis-same-length-2 t c = search needs
+
+parenthesis-returns-3 : (t : ℕ) → parenthesis-lts.Need-returns-3 (parenthesis-calls t) (parenthesis-at t) parenthesis.Post
+unfolding _>>_
+parenthesis-returns-3 t c = reads-refused (denied (called _ _ (primary-opens _ _ _ _ _ (c .before .before .before .before .before .before .before .before .before .before .before .before .before .before .before .before .before .pre .1 .1)) (ends (comes _ _ (starts _ _ _ _ _ _) (subst (Passes _ _ _ _) (c .before .before .before .before .before .before .before .before .before .before .before .before .q .given .1) (c .before .before .before .before .before .before .before .before .before .before .before .before .before .before .next .ensures) .so)) (subst (Reads _ _ _ _ _ _ _) (c .before .before .before .before .before .inner .given .1) (c .before .before .before .before .before .before .before .before .before .expression .ensures) .so))) (subst (Passes _ _ _ _) (c .before .r3 .given .1) (c .before .before .before .expect .ensures .so ")" refl (plain ")" refl)) .so))
+
+parenthesis-same-length-3 : (t : ℕ) → parenthesis-lts.Need-same-length-3 (parenthesis-calls t) (parenthesis-at t) parenthesis.Post
+parenthesis-same-length-3 t c = search needs
+
+parenthesis-returns-4 : (t : ℕ) → parenthesis-lts.Need-returns-4 (parenthesis-calls t) (parenthesis-at t) parenthesis.Post
+unfolding _>>_
+parenthesis-returns-4 t c = reads-done (lands (called _ _ (primary-opens _ _ _ _ _ (c .before .before .before .before .before .before .before .before .before .before .before .before .before .before .before .before .before .pre .1 .1)) (ends (comes _ _ (starts _ _ _ _ _ _) (subst (Passes _ _ _ _) (c .before .before .before .before .before .before .before .before .before .before .before .before .q .given .1) (c .before .before .before .before .before .before .before .before .before .before .before .before .before .before .next .ensures) .so)) (subst (Reads _ _ _ _ _ _ _) (c .before .before .before .before .before .inner .given .1) (c .before .before .before .before .before .before .before .before .before .expression .ensures) .so))) (subst (Passes _ _ _ _) (c .before .after .given .1) (c .before .before .before .expect .ensures .so ")" refl (plain ")" refl)) .so))
+
+abbrev prefixed-calls : ℕ → prefixed-lts.Claims
+prefixed-calls t =
+    (next-reads.Asked, next-reads.Learnt, prefix-level-reads.Asked, prefix-level-reads.Learnt, refused-at-reads.Asked, refused-at-reads.Learnt, expression-below t, expression.Post, number-reads.Asked, number-reads.Learnt, put-record-reads.Asked, put-record-reads.Learnt)
+
+prefixed-next-requires : (t : ℕ) → prefixed-lts.Need-next-requires (prefixed-calls t) (prefixed-at t) prefixed.Post
+prefixed-next-requires t c κs = let i = operator-inside _ (c .before .before .pre .1 .1) in (c .before .before .pre .1 .0, i .0, i .1)
+
+prefixed-enum-known-r : (t : ℕ) → prefixed-lts.Need-enum-known-r (prefixed-calls t) (prefixed-at t) prefixed.Post
+prefixed-enum-known-r t c = search needs
+
+prefixed-enum-known-q : (t : ℕ) → prefixed-lts.Need-enum-known-q (prefixed-calls t) (prefixed-at t) prefixed.Post
+prefixed-enum-known-q t c = search needs
+
+prefixed-prefix-level-requires : (t : ℕ) → prefixed-lts.Need-prefix-level-requires (prefixed-calls t) (prefixed-at t) prefixed.Post
+prefixed-prefix-level-requires t c κs = search needs
+
+prefixed-enum-told : (t : ℕ) → prefixed-lts.Need-enum-told (prefixed-calls t) (prefixed-at t) prefixed.Post
+prefixed-enum-told t c = search needs
+
+prefixed-refused-at-requires : (t : ℕ) → prefixed-lts.Need-refused-at-requires (prefixed-calls t) (prefixed-at t) prefixed.Post
+prefixed-refused-at-requires t c κs = search needs
+
+prefixed-enum-known-level : (t : ℕ) → prefixed-lts.Need-enum-known-level (prefixed-calls t) (prefixed-at t) prefixed.Post
+prefixed-enum-known-level t c = search needs
+
+prefixed-expression-requires : (t : ℕ) → prefixed-lts.Need-expression-requires (prefixed-calls t) (prefixed-at t) prefixed.Post
+prefixed-expression-requires t c κs = (omega (arith, c .before .before .before .before .before .before .before .before .before .before .before .pre .0), c .before .before .before .before .before .before .before .before .before .before .before .pre .1 .0)
+
+prefixed-enum-known-r-2 : (t : ℕ) → prefixed-lts.Need-enum-known-r-2 (prefixed-calls t) (prefixed-at t) prefixed.Post
+prefixed-enum-known-r-2 t c = search needs
+
+prefixed-enum-known-inner : (t : ℕ) → prefixed-lts.Need-enum-known-inner (prefixed-calls t) (prefixed-at t) prefixed.Post
+prefixed-enum-known-inner t c = search needs
+
+prefixed-number-requires : (t : ℕ) → prefixed-lts.Need-number-requires (prefixed-calls t) (prefixed-at t) prefixed.Post
+prefixed-number-requires t c κs = search needs
+
+prefixed-put-record-requires : (t : ℕ) → prefixed-lts.Need-put-record-requires (prefixed-calls t) (prefixed-at t) prefixed.Post
+prefixed-put-record-requires t c κs = search needs
+
+prefixed-returns : (t : ℕ) → prefixed-lts.Need-returns (prefixed-calls t) (prefixed-at t) prefixed.Post
+unfolding _>>_
+prefixed-returns t c = reads-refused (called-denied _ _ (primary-signed _ _ 0 [] _ (c .before .before .before .before .before .before .args .op) (c .before .before .before .before .before .before .pre .1 .1)) (subst (Passes _ _ _ _) (c .before .r .given .1) (c .before .before .before .next .ensures) .so))
+
+prefixed-returns-2 : (t : ℕ) → prefixed-lts.Need-returns-2 (prefixed-calls t) (prefixed-at t) prefixed.Post
+unfolding _>>_
+prefixed-returns-2 t c = reads-refused (called-denied _ _ (comes _ _ (primary-no-operand _ _ 0 [] _ (c .before .before .before .before .before .before .before .before .before .before .args .op) (c .before .before .before .before .before .before .before .before .before .before .pre .1 .1) (sym (c .before .before .before .prefix-level .ensures) ∙ c .before .enum-told .given .1)) (subst (Passes _ _ _ _) (c .before .before .before .before .before .q .given .1) (c .before .before .before .before .before .before .before .next .ensures) .so)) (refuses (nowhere 22) (c .refused-at .ensures)))
+
+prefixed-same-length : (t : ℕ) → prefixed-lts.Need-same-length (prefixed-calls t) (prefixed-at t) prefixed.Post
+prefixed-same-length t c = search needs
+
+prefixed-returns-3 : (t : ℕ) → prefixed-lts.Need-returns-3 (prefixed-calls t) (prefixed-at t) prefixed.Post
+unfolding _>>_
+prefixed-returns-3 t c = reads-refused (called-denied _ _ (comes _ _ (primary-operand _ _ 0 [] _ (c .before .before .before .before .before .before .before .before .before .before .before .before .before .before .before .before .before .args .op) (c .before .before .before .before .before .before .before .before .before .before .before .before .before .before .before .before .before .pre .1 .1) (sym (c .before .before .before .before .before .before .before .before .before .before .prefix-level .ensures) ∙ c .before .before .before .before .before .before .before .before .level .given .1)) (subst (Passes _ _ _ _) (c .before .before .before .before .before .before .before .before .before .before .before .before .q .given .1) (c .before .before .before .before .before .before .before .before .before .before .before .before .before .before .next .ensures) .so)) (subst (Reads _ _ _ _ _ _ _) (c .before .r2 .given .1) (c .before .before .before .before .before .expression .ensures) .so))
+
+prefixed-same-length-2 : (t : ℕ) → prefixed-lts.Need-same-length-2 (prefixed-calls t) (prefixed-at t) prefixed.Post
+prefixed-same-length-2 t c = search needs
+
+prefixed-returns-4 : (t : ℕ) → prefixed-lts.Need-returns-4 (prefixed-calls t) (prefixed-at t) prefixed.Post
+unfolding _>>_ encode bytes
+prefixed-returns-4 t c = reads-done (ends (comes _ _ (called _ _ (comes _ _ (primary-operand _ _ _ _ _ (c .before .before .before .before .before .before .before .before .before .before .before .before .before .before .before .before .before .before .before .before .before .before .args .op) (c .before .before .before .before .before .before .before .before .before .before .before .before .before .before .before .before .before .before .before .before .before .before .pre .1 .1) (sym (c .before .before .before .before .before .before .before .before .before .before .before .before .before .before .before .prefix-level .ensures) ∙ c .before .before .before .before .before .before .before .before .before .before .before .before .before .level .given .1)) (subst (Passes _ _ _ _) (c .before .before .before .before .before .before .before .before .before .before .before .before .before .before .before .before .before .q .given .1) (c .before .before .before .before .before .before .before .before .before .before .before .before .before .before .before .before .before .before .before .next .ensures) .so)) (subst (Reads _ _ _ _ _ _ _) (c .before .before .before .before .before .before .inner .given .1) (c .before .before .before .before .before .before .before .before .before .before .expression .ensures) .so)) is-passed) (writes (PF _ _ _) (rw (c .before .before .before .number .ensures) at (c .before .before .put-record .ensures))))
+
+abbrev primary-calls : ℕ → primary-lts.Claims
+primary-calls t =
+    (parenthesis-below t, parenthesis.Post, operator-of-reads.Asked, operator-of-reads.Learnt, prefixed-below t, prefixed.Post, atom-reads.Asked, atom-reads.Learnt)
+
+primary-parenthesis-requires : (t : ℕ) → primary-lts.Need-parenthesis-requires (primary-calls t) (primary-at t) primary.Post
+primary-parenthesis-requires t c κs = (omega (arith, c .before .before .before .before .pre .0), (c .before .before .before .before .pre .1, c .before .if1 .taken))
+
+primary-same-length : (t : ℕ) → primary-lts.Need-same-length (primary-calls t) (primary-at t) primary.Post
+primary-same-length t c = search needs
+
+primary-returns : (t : ℕ) → primary-lts.Need-returns (primary-calls t) (primary-at t) primary.Post
+primary-returns t c = c .before .before .parenthesis .ensures
+
+primary-operator-of-requires : (t : ℕ) → primary-lts.Need-operator-of-requires (primary-calls t) (primary-at t) primary.Post
+primary-operator-of-requires t c κs = search needs
+
+primary-enum-known-op : (t : ℕ) → primary-lts.Need-enum-known-op (primary-calls t) (primary-at t) primary.Post
+primary-enum-known-op t c = search needs
+
+primary-prefixed-requires : (t : ℕ) → primary-lts.Need-prefixed-requires (primary-calls t) (primary-at t) primary.Post
+primary-prefixed-requires t c κs = (omega (arith, c .before .before .before .before .before .before .before .before .pre .0), (c .before .before .before .before .before .before .before .before .pre .1, sym (c .before .before .before .before .operator-of .ensures) ∙ ap numberIn (c .before .before .op .given .1)))
+
+primary-enum-told : (t : ℕ) → primary-lts.Need-enum-told (primary-calls t) (primary-at t) primary.Post
+primary-enum-told t c = search needs
+
+primary-atom-requires : (t : ℕ) → primary-lts.Need-atom-requires (primary-calls t) (primary-at t) primary.Post
+primary-atom-requires t c κs = c .before .before .before .before .before .before .before .pre .1
+
+primary-same-length-2 : (t : ℕ) → primary-lts.Need-same-length-2 (primary-calls t) (primary-at t) primary.Post
+primary-same-length-2 t c = search needs
+
+primary-returns-2 : (t : ℕ) → primary-lts.Need-returns-2 (primary-calls t) (primary-at t) primary.Post
+primary-returns-2 t c = c .before .before .prefixed .ensures
+
+primary-same-length-3 : (t : ℕ) → primary-lts.Need-same-length-3 (primary-calls t) (primary-at t) primary.Post
+primary-same-length-3 t c = search needs
+
+primary-returns-3 : (t : ℕ) → primary-lts.Need-returns-3 (primary-calls t) (primary-at t) primary.Post
+primary-returns-3 t c = hands-on (primary-atom _ _ _ _ _ (ne-eqb _ _ (c .before .before .before .before .before .before .before .if1 .left)) (sym (c .before .before .before .before .before .before .operator-of .ensures) ∙ ap numberIn (c .before .before .before .before .enum-told .given .1))) (c .before .before .atom .ensures)
 
 pub +expression+infixes+parenthesis+prefixed+primary-spec : {M : Type 1} → statement M
 +expression+infixes+parenthesis+prefixed+primary-spec =
-    close μ-expression μ-infixes μ-parenthesis μ-prefixed μ-primary (λ t. expression-lts.spec (
-      refuse-here-reads.Asked,
-      refuse-here-reads.Learnt,
-      primary-below t,
-      primary.Post,
-      infixes-below t,
-      infixes.Post,
-    )
+    close μ-expression μ-infixes μ-parenthesis μ-prefixed μ-primary (λ t. expression-lts.spec (expression-calls t)
     (expression-at t)
     expression.Post
     (expression-refuse-here-requires t)
@@ -1279,20 +434,7 @@ pub +expression+infixes+parenthesis+prefixed+primary-spec : {M : Type 1} → sta
     (expression-returns-2 t)
     (expression-same-length-2 t)
     (expression-returns-3 t))
-    (λ t. infixes-lts.spec (
-      operator-of-reads.Asked,
-      operator-of-reads.Learnt,
-      infix-level-reads.Asked,
-      infix-level-reads.Learnt,
-      next-reads.Asked,
-      next-reads.Learnt,
-      expression-below t,
-      expression.Post,
-      number-reads.Asked,
-      number-reads.Learnt,
-      put-record-reads.Asked,
-      put-record-reads.Learnt,
-    )
+    (λ t. infixes-lts.spec (infixes-calls t)
     (infixes-at t)
     infixes.Post
     infixes-Inv-loop
@@ -1321,14 +463,7 @@ pub +expression+infixes+parenthesis+prefixed+primary-spec : {M : Type 1} → sta
     (infixes-put-record-requires t)
     (infixes-loop-less t)
     (infixes-loop-again t))
-    (λ t. parenthesis-lts.spec (
-      next-reads.Asked,
-      next-reads.Learnt,
-      expression-below t,
-      expression.Post,
-      expect-reads.Asked,
-      expect-reads.Learnt,
-    )
+    (λ t. parenthesis-lts.spec (parenthesis-calls t)
     (parenthesis-at t)
     parenthesis.Post
     (parenthesis-next-requires t)
@@ -1347,20 +482,7 @@ pub +expression+infixes+parenthesis+prefixed+primary-spec : {M : Type 1} → sta
     (parenthesis-returns-3 t)
     (parenthesis-same-length-3 t)
     (parenthesis-returns-4 t))
-    (λ t. prefixed-lts.spec (
-      next-reads.Asked,
-      next-reads.Learnt,
-      prefix-level-reads.Asked,
-      prefix-level-reads.Learnt,
-      refused-at-reads.Asked,
-      refused-at-reads.Learnt,
-      expression-below t,
-      expression.Post,
-      number-reads.Asked,
-      number-reads.Learnt,
-      put-record-reads.Asked,
-      put-record-reads.Learnt,
-    )
+    (λ t. prefixed-lts.spec (prefixed-calls t)
     (prefixed-at t)
     prefixed.Post
     (prefixed-next-requires t)
