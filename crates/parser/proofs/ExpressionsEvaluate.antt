@@ -1,6 +1,6 @@
 -- Sums, differences, products and quotients of numbers of 32 bits fit 64, so they are exact, and the tests of the range decide 50.
 -- Assumes nothing.
-use Prim.Native.Nat.{ℕ, zero, suc, _+_, _*_, _-_, _/_, _^_, _≤_, _<_}
+use Prim.Native.Nat.{ℕ, zero, suc, _+_, _*_, _-_, _/_, _≤_, _<_}
 use mathlib.Core.Path.{_≡_, refl, sym, ap, subst, _∙_}
 use mathlib.Core.Bool.{Bool, true, false}
 use native.Mathlib.Omega.{arith}

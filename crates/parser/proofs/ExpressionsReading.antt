@@ -4,15 +4,15 @@ use Prim.Native.Nat.{ℕ, zero, suc, _+_, _-_, _≤_, _<_}
 use Prim.Native.Char.{Char, code}
 use mathlib.Core.Path.{_≡_, refl, sym, ap, subst, _∙_}
 use mathlib.Core.List.{List, [], _∷_}
-use mathlib.Core.Bool.{Bool, true, false}
+use mathlib.Core.Bool.{true, false}
 use mathlib.Core.Option.{Option, none, some}
 use native.Mathlib.Omega.{arith}
 use native.Mathlib.Nat.{not-suc-le-zero}
-use borrow.Author.Tests.{eqb-true, ne-eqb}
+use borrow.Author.Tests.{ne-eqb}
 use lib.Dec.{eqb, ltb}
 use lib.ListN.{length, getD, take, drop}
 use Rattle.lexer.specs.Text.{if_then_else_, maybe, is}
-use Rattle.rules.specs.Lexemes.{Kind, word, number, quoted, mark, newline, invalid, bad, Lexeme}
+use Rattle.rules.specs.Lexemes.{Kind, word, number, quoted, mark, Lexeme}
 use Rattle.rules.specs.Records.{Record, VL, VS, VI, PF, IN, encode}
 use Rattle.rules.specs.Reader.{Reader, Line, nowhere, _>>=_, _>>_, return, write, refuse, next, ahead, kind, passed, left, refuseHere, isMark, expect}
 use Rattle.rules.specs.Expressions.{operatorOf, leftLevel, rightLevel, prefixLevel, character, atomOf, atom, primary, infixes, expr}
@@ -24,8 +24,8 @@ use Rattle.parser.specs.declared.expressions.Operator.the-variants.{Add,
 use Rattle.parser.specs.declared.expressions.PrefixLevel.the-variants.{Level, Invalid}
 use Rattle.parser.specs.Views.{Plain, kindBy, textOf, hereOf, lineOf, line, Gives, Denies, Comes}
 use Rattle.parser.specs.Operators.{operatorNumber, prefixLevelOf}
-use Rattle.parser.proofs.Chain.{Sofar, starts, becomes, called, called-denied, comes, ends, writes, is-ahead, is-kind}
-use Rattle.parser.proofs.Flat.{by-kind, mark-is, other-byte, plain}
+use Rattle.parser.proofs.Chain.{Sofar, starts, becomes, called-denied, comes, ends, writes, is-ahead, is-kind}
+use Rattle.parser.proofs.Flat.{by-kind, mark-is, plain}
 
 -- kinds by their bytes
 module _ {k : ℕ} (v : ℕ) (w : List ℕ) where
@@ -65,7 +65,6 @@ operator-other k n {op} f e = ne-eqb k n λ h. let z : _≡_ {A = Option ℕ} no
   where
     none-some : {a : ℕ} → _≡_ {A = Option ℕ} none (some a) → ⊥
     none-some z = let y : _≡_ {A = ℕ} 0 1 = cc in omega arith
-
 
 -- so it stands within a line
 pub operator-inside : (k : ℕ) {op : ℕ} → operatorOf (mark k) ≡ some op → (eqb k 10 ≡ false) × (eqb k 0 ≡ false)

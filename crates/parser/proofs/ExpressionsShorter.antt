@@ -2,14 +2,14 @@
 -- Assumes nothing.
 use Prim.Native.Nat.{ℕ, zero, suc, _≤_, zero-le}
 use Prim.Native.Char.{Char}
-use mathlib.Core.Path.{_≡_, refl, subst}
+use mathlib.Core.Path.{subst}
 use mathlib.Core.List.{List, [], _∷_}
 use mathlib.Core.Bool.{Bool, true, false}
 use native.Mathlib.Omega.{arith}
 use native.Mathlib.Nat.{le-refl}
 use lib.Dec.{ltb}
 use lib.ListN.{length}
-use Rattle.lexer.specs.Text.{if_then_else_, maybe, is}
+use Rattle.lexer.specs.Text.{is}
 use Rattle.rules.specs.Lexemes.{Kind, word, number, quoted, mark, newline, blank, comment, invalid, end, bad, Lexeme}
 use Rattle.rules.specs.Records.{Record}
 use Rattle.rules.specs.Reader.{Answer, done, refused, Reader, Line, _>>=_, write, step, next, ahead, kind, passed, isMark, expect}

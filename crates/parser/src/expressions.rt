@@ -1,6 +1,6 @@
 // Expressions, written in reverse Polish.
 ghost use mathlib.Core.Path.{_≡_};
-ghost use mathlib.Core.Bool.{true, false};
+ghost use mathlib.Core.Bool.{false};
 ghost use mathlib.Core.Option.{some};
 ghost use Prim.Native.Nat.{ℕ, _≤_};
 ghost use lib.ListN.{length};
@@ -16,8 +16,8 @@ use super::state::Parser;
 use super::state::Step;
 use super::state::expect;
 use super::state::next;
-use super::state::refused_at;
 use super::state::refuse_here;
+use super::state::refused_at;
 use super::state::text;
 
 pub enum Operator {
@@ -63,6 +63,7 @@ impl Operator {
         }
     }
 
+    // Before an operand only `+` and `-` stand; they bind tightest.
     pub fn prefix_level(self) -> PrefixLevel
         ensures { λ r. ⌜ r ≡ prefixLevelOf self ⌝ }
     {
@@ -74,6 +75,7 @@ impl Operator {
         }
     }
 
+    // As PF and IN have it.
     pub fn number(self) -> u32
         ensures { λ r. ⌜ r ≡ operatorNumber self ⌝ }
     {
@@ -85,6 +87,7 @@ impl Operator {
         }
     }
 
+    // The exact result; a quotient is truncated toward zero.
     pub fn evaluate(self, left: i32, right: i32) -> Evaluated
         ensures { λ r. ⌜ resultOf r ≡ exactly (operatorNumber self) left right ⌝ }
     {
@@ -105,6 +108,7 @@ impl Operator {
     }
 }
 
+// A result of 32 signed bits.
 fn in_range(v: i64) -> Evaluated
     ensures { λ r. ⌜ resultOf r ≡ signed32 v ⌝ }
 {
@@ -117,6 +121,7 @@ fn in_range(v: i64) -> Evaluated
     Evaluated::Value(v as i32)
 }
 
+// The operator whose character is the token's kind.
 pub fn operator_of(kind: u8) -> MaybeOperator
     ensures { λ r. ⌜ numberIn r ≡ rules.operatorOf (mark kind) ⌝ }
 {
@@ -283,6 +288,7 @@ fn constant(src: &[u8], out: &mut [u8], at: u32, p: Parser, v: u32) -> Parsed
     }
 }
 
+// A name; what it stands for is not asked.
 fn name(src: &[u8], out: &mut [u8], at: u32, p: Parser) -> Parsed
     requires { ⌜ (length (now src) ≤ 65536) × (p .kind ≡ 97) ⌝ }
     ensures { λ r. ⌜ Reads line (now (src .entry)) p rules.atom at (now (out .entry)) (now (out .exit)) r ⌝ }

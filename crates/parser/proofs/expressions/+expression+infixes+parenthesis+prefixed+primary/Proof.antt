@@ -139,7 +139,7 @@ expression-same-length t c = search needs
 
 expression-returns-2 : (t : ℕ) → expression-lts.Need-returns-2 (expression-calls t) (expression-at t) expression.Post
 unfolding _>>_
-expression-returns-2 t c = 
+expression-returns-2 t c =
     let e : c .before .before .before .before .before .before .before .before .before .before .args .left ≡ suc (c .before .before .before .before .before .before .before .before .before .before .args .left - 1) = omega arith in
     reads-refused (called-denied _ _ (expr-begins _ _ 0 [] _ e) (subst (Reads _ _ _ _ _ _ _) (c .before .r .given .1) (c .before .before .before .before .before .primary .ensures) .so))
 
@@ -148,7 +148,7 @@ expression-same-length-2 t c = search needs
 
 expression-returns-3 : (t : ℕ) → expression-lts.Need-returns-3 (expression-calls t) (expression-at t) expression.Post
 unfolding _>>_
-expression-returns-3 t c = 
+expression-returns-3 t c =
     let e : c .before .before .before .before .before .before .before .before .before .before .before .before .before .before .args .left ≡ suc (c .before .before .before .before .before .before .before .before .before .before .before .before .before .before .args .left - 1) = omega arith in
     hands-on (comes _ _ (called _ _ (expr-begins _ _ _ _ _ e) (subst (Reads _ _ _ _ _ _ _) (c .before .before .before .before .before .q .given .1) (c .before .before .before .before .before .before .before .before .before .primary .ensures) .so)) is-left) (c .before .before .infixes .ensures)
 
@@ -203,7 +203,7 @@ infixes-same-length-3 t c = c .before .before .before .before .before .before .b
 
 infixes-returns-3 : (t : ℕ) → infixes-lts.Need-returns-3 (infixes-calls t) (infixes-at t) infixes.Post infixes-Inv-loop infixes-μ-loop
 unfolding _>>_
-infixes-returns-3 t c = 
+infixes-returns-3 t c =
     let i = operator-inside _ (sym (c .before .before .before .before .before .before .before .before .before .operator-of .ensures) ∙ ap numberIn (c .before .before .before .before .before .before .before .op .given .1)) in
     let more = has-more (now (c .before .before .before .before .before .before .before .before .before .before .before .before .before .args .src)) (c .before .before .before .before .before .before .before .before .before .before .loop .q) (i .0) (i .1) in
     let fuel = positive (c .before .before .before .before .before .before .before .before .before .before .loop .inv .0) (omega (arith, c .before .before .before .before .before .before .before .before .before .before .loop .inv .1)) in
@@ -226,7 +226,7 @@ infixes-same-length-4 t c = c .before .before .before .before .before .expressio
 
 infixes-returns-4 : (t : ℕ) → infixes-lts.Need-returns-4 (infixes-calls t) (infixes-at t) infixes.Post infixes-Inv-loop infixes-μ-loop
 unfolding _>>_
-infixes-returns-4 t c = 
+infixes-returns-4 t c =
     let i = operator-inside _ (sym (c .before .before .before .before .before .before .before .before .before .before .before .before .before .before .before .before .operator-of .ensures) ∙ ap numberIn (c .before .before .before .before .before .before .before .before .before .before .before .before .before .before .op .given .1)) in
     let more = has-more (now (c .before .before .before .before .before .before .before .before .before .before .before .before .before .before .before .before .before .before .before .before .args .src)) (c .before .before .before .before .before .before .before .before .before .before .before .before .before .before .before .before .before .loop .q) (i .0) (i .1) in
     let fuel = positive (c .before .before .before .before .before .before .before .before .before .before .before .before .before .before .before .before .before .loop .inv .0) (omega (arith, c .before .before .before .before .before .before .before .before .before .before .before .before .before .before .before .before .before .loop .inv .1)) in
@@ -242,7 +242,7 @@ infixes-put-record-requires : (t : ℕ) → infixes-lts.Need-put-record-requires
 infixes-put-record-requires t c κs = search needs
 
 infixes-loop-less : (t : ℕ) → infixes-lts.Need-loop-less (infixes-calls t) (infixes-at t) infixes.Post infixes-Inv-loop infixes-μ-loop
-infixes-loop-less t c = 
+infixes-loop-less t c =
     let i = operator-inside _ (sym (c .before .before .before .before .before .before .before .before .before .before .before .before .before .before .before .before .before .before .before .before .before .operator-of .ensures) ∙ ap numberIn (c .before .before .before .before .before .before .before .before .before .before .before .before .before .before .before .before .before .before .before .op .given .1)) in
     let less = one-less (now (c .before .before .before .before .before .before .before .before .before .before .before .before .before .before .before .before .before .before .before .before .before .before .before .before .before .args .src)) (c .before .before .before .before .before .before .before .before .before .before .before .before .before .before .before .before .before .before .before .before .before .before .loop .q) (i .0) (i .1) (subst (Passes _ _ _ _) (c .before .before .before .before .before .before .before .before .before .before .before .before .before .behind .given .1) (c .before .before .before .before .before .before .before .before .before .before .before .before .before .before .before .next .ensures) .so) in
     let no-more = no-longer _ _ (subst (Reads _ _ _ _ _ _ _) (c .before .before .before .before .before .before .right .given .1) (c .before .before .before .before .before .before .before .before .before .before .expression .ensures) .so) in
@@ -250,15 +250,16 @@ infixes-loop-less t c =
 
 infixes-loop-again : (t : ℕ) → infixes-lts.Need-loop-again (infixes-calls t) (infixes-at t) infixes.Post infixes-Inv-loop infixes-μ-loop
 unfolding _>>_ encode bytes
-infixes-loop-again t c = 
+infixes-loop-again t c =
     let i = operator-inside _ (sym (c .before .before .before .before .before .before .before .before .before .before .before .before .before .before .before .before .before .before .before .before .before .operator-of .ensures) ∙ ap numberIn (c .before .before .before .before .before .before .before .before .before .before .before .before .before .before .before .before .before .before .before .op .given .1)) in
     let less = one-less (now (c .before .before .before .before .before .before .before .before .before .before .before .before .before .before .before .before .before .before .before .before .before .before .before .before .before .args .src)) (c .before .before .before .before .before .before .before .before .before .before .before .before .before .before .before .before .before .before .before .before .before .before .loop .q) (i .0) (i .1) (subst (Passes _ _ _ _) (c .before .before .before .before .before .before .before .before .before .before .before .before .before .behind .given .1) (c .before .before .before .before .before .before .before .before .before .before .before .before .before .before .before .next .ensures) .so) in
     let no-more = no-longer _ _ (subst (Reads _ _ _ _ _ _ _) (c .before .before .before .before .before .before .right .given .1) (c .before .before .before .before .before .before .before .before .before .before .expression .ensures) .so) in
     let more = has-more (now (c .before .before .before .before .before .before .before .before .before .before .before .before .before .before .before .before .before .before .before .before .before .before .before .before .before .args .src)) (c .before .before .before .before .before .before .before .before .before .before .before .before .before .before .before .before .before .before .before .before .before .before .loop .q) (i .0) (i .1) in
-    let fuel = positive (c .before .before .before .before .before .before .before .before .before .before .before .before .before .before .before .before .before .before .before .before .before .before .loop .inv .0) (omega (arith, c .before .before .before .before .before .before .before .before .before .before .before .before .before .before .before .before .before .before .before .before .before .before .loop .inv .1)) in
-    (fuel .0,
-     omega (arith, c .before .before .before .before .before .before .before .before .before .before .before .before .before .before .before .before .before .before .before .before .before .before .loop .inv .1, fuel .1),
-     called _ _ (comes _ _ (called _ _ (comes _ _ (turns _ _ _ _ _ (sym (c .before .before .before .before .before .before .before .before .before .before .before .before .before .before .before .before .before .before .before .before .before .operator-of .ensures) ∙ ap numberIn (c .before .before .before .before .before .before .before .before .before .before .before .before .before .before .before .before .before .before .before .op .given .1)) (fuel .1) (rw (← c .before .before .before .before .before .before .before .before .before .before .before .before .before .before .before .before .before .infix-level .ensures) (le-ltb _ _ (c .before .before .before .before .before .before .before .before .before .before .before .before .before .before .before .before .if1 .left))) (sym (ap (λ (n : ℕ). n + 1) (c .before .before .before .before .before .before .before .before .before .before .before .before .before .before .before .before .before .infix-level .ensures) ∙ right-level (c .before .before .before .before .before .before .before .before .before .before .before .before .before .before .before .before .before .before .before .op .given .0 .0))) (c .before .before .before .before .before .before .before .before .before .before .before .before .before .before .before .before .before .before .before .before .before .before .loop .inv .2)) (subst (Passes _ _ _ _) (c .before .before .before .before .before .before .before .before .before .before .before .before .before .behind .given .1) (c .before .before .before .before .before .before .before .before .before .before .before .before .before .before .before .next .ensures) .so)) (subst (Reads _ _ _ _ _ _ _) (c .before .before .before .before .before .before .right .given .1) (c .before .before .before .before .before .before .before .before .before .before .expression .ensures) .so)) is-passed) (writes (IN _ _ _) (rw (c .before .before .before .number .ensures) at (c .before .before .put-record .ensures))))
+    let fuel = positive (c .before .before .before .before .before .before .before .before .before .before .before .before .before .before .before .before .before .before .before .before .before .before .loop .inv .0) (omega (arith, c .before .before .before .before .before .before .before .before .before .before .before .before .before .before .before .before .before .before .before .before .before .before .loop .inv .1)) in (
+      fuel .0,
+      omega (arith, c .before .before .before .before .before .before .before .before .before .before .before .before .before .before .before .before .before .before .before .before .before .before .loop .inv .1, fuel .1),
+      called _ _ (comes _ _ (called _ _ (comes _ _ (turns _ _ _ _ _ (sym (c .before .before .before .before .before .before .before .before .before .before .before .before .before .before .before .before .before .before .before .before .before .operator-of .ensures) ∙ ap numberIn (c .before .before .before .before .before .before .before .before .before .before .before .before .before .before .before .before .before .before .before .op .given .1)) (fuel .1) (rw (← c .before .before .before .before .before .before .before .before .before .before .before .before .before .before .before .before .before .infix-level .ensures) (le-ltb _ _ (c .before .before .before .before .before .before .before .before .before .before .before .before .before .before .before .before .if1 .left))) (sym (ap (λ (n : ℕ). n + 1) (c .before .before .before .before .before .before .before .before .before .before .before .before .before .before .before .before .before .infix-level .ensures) ∙ right-level (c .before .before .before .before .before .before .before .before .before .before .before .before .before .before .before .before .before .before .before .op .given .0 .0))) (c .before .before .before .before .before .before .before .before .before .before .before .before .before .before .before .before .before .before .before .before .before .before .loop .inv .2)) (subst (Passes _ _ _ _) (c .before .before .before .before .before .before .before .before .before .before .before .before .before .behind .given .1) (c .before .before .before .before .before .before .before .before .before .before .before .before .before .before .before .next .ensures) .so)) (subst (Reads _ _ _ _ _ _ _) (c .before .before .before .before .before .before .right .given .1) (c .before .before .before .before .before .before .before .before .before .before .expression .ensures) .so)) is-passed) (writes (IN _ _ _) (rw (c .before .before .before .number .ensures) at (c .before .before .put-record .ensures))),
+    )
 
 abbrev parenthesis-calls : ℕ → parenthesis-lts.Claims
 parenthesis-calls t =

@@ -1,26 +1,14 @@
 -- An atom goes by the byte of its token.
 -- Assumes nothing.
-use mathlib.Core.Path.{_≡_, refl, sym, ap, subst, _∙_}
+use mathlib.Core.Path.{ap}
 use Prim.Native.Nat.{ℕ}
-use native.Mathlib.Omega.{arith}
 use lib.Dec.{eqb}
-use Rattle.lexer.specs.Text.{bytes}
-use Rattle.rules.specs.Records.{VC, VL, VI, VS, PF, IN, encode}
-use Rattle.rules.specs.Expressions.{atomOf}
-use Rattle.parser.specs.Views.{Passes}
 use mathlib.Core.List.{[]}
-use Rattle.parser.proofs.Chain.{denied, hands-on, refuses-here, reads-done, reads-refused}
+use Rattle.parser.proofs.Chain.{denied, hands-on, refuses-here, reads-refused}
 use Rattle.parser.proofs.ExpressionsReading.{number-is, atom-by, atom-open, atom-none}
 use borrow.Author.Needs.{needs}
 use Rattle.parser.proofs.expressions.atom.Statement.{statement}
 use Rattle.parser.proofs.expressions.atom.Tie as tie
-use Rattle.parser.proofs.expressions.atom.Reads as reads
-use Rattle.parser.proofs.expressions.atom.Lts as lts
-use Rattle.parser.proofs.expressions.character.Reads as character-reads
-use Rattle.parser.proofs.expressions.constant.Reads as constant-reads
-use Rattle.parser.proofs.expressions.dollar.Reads as dollar-reads
-use Rattle.parser.proofs.expressions.name.Reads as name-reads
-use Rattle.parser.proofs.state.refuse_here.Reads as refuse-here-reads
 
 constant-requires : tie.Need-constant-requires
 constant-requires c κs = (c .before .before .before .before .pre, ap (λ (k : ℕ). eqb k 10) (c .before .match .keys1), ap (λ (k : ℕ). eqb k 0) (c .before .match .keys1))

@@ -1,26 +1,15 @@
 -- The text with its quotes has three bytes exactly where one character stands between them.
 -- Assumes nothing.
-use mathlib.Core.Path.{_≡_, refl, sym, ap, subst, _∙_}
+use mathlib.Core.Path.{ap}
 use Prim.Native.Nat.{ℕ}
 use native.Mathlib.Omega.{arith}
 use lib.Dec.{eqb}
-use Rattle.lexer.specs.Text.{bytes}
-use Rattle.rules.specs.Records.{VC, VL, VI, VS, PF, IN, encode}
-use Rattle.rules.specs.Expressions.{atomOf}
-use Rattle.parser.specs.Views.{Passes}
 use mathlib.Core.List.{[]}
-use Rattle.parser.proofs.Chain.{denied, hands-on, refuses-here, reads-done, reads-refused}
+use Rattle.parser.proofs.Chain.{denied, hands-on, refuses-here, reads-refused}
 use Rattle.parser.proofs.ExpressionsReading.{atom-character, atom-text}
-use lib.ListN.{length}
-use denote.Ref.{now}
 use borrow.Author.Needs.{needs}
 use Rattle.parser.proofs.expressions.character.Statement.{statement}
 use Rattle.parser.proofs.expressions.character.Tie as tie
-use Rattle.parser.proofs.expressions.character.Reads as reads
-use Rattle.parser.proofs.expressions.character.Lts as lts
-use Rattle.parser.proofs.expressions.constant.Reads as constant-reads
-use Rattle.parser.proofs.state.refuse_here.Reads as refuse-here-reads
-use Rattle.parser.proofs.state.text.Reads as text-reads
 
 text-requires : tie.Need-text-requires
 text-requires c κs = search needs

@@ -1,11 +1,8 @@
 -- Past the token, and its number.
 -- Assumes nothing.
-use mathlib.Core.Path.{_≡_, refl, sym, ap, subst, _∙_}
-use Prim.Native.Nat.{ℕ}
-use native.Mathlib.Omega.{arith}
-use lib.Dec.{eqb}
+use mathlib.Core.Path.{subst}
 use Rattle.lexer.specs.Text.{bytes}
-use Rattle.rules.specs.Records.{VC, VL, VI, VS, PF, IN, encode}
+use Rattle.rules.specs.Records.{VC, encode}
 use Rattle.rules.specs.Expressions.{atomOf}
 use Rattle.parser.specs.Views.{Passes}
 use mathlib.Core.List.{[]}
@@ -14,10 +11,6 @@ use Rattle.parser.proofs.ExpressionsReading.{token-writes, token-denied
 use borrow.Author.Needs.{needs}
 use Rattle.parser.proofs.expressions.constant.Statement.{statement}
 use Rattle.parser.proofs.expressions.constant.Tie as tie
-use Rattle.parser.proofs.expressions.constant.Reads as reads
-use Rattle.parser.proofs.expressions.constant.Lts as lts
-use Rattle.parser.proofs.state.next.Reads as next-reads
-use Rattle.records.proofs.put_record.Reads as put-record-reads
 
 next-requires : tie.Need-next-requires
 next-requires c κs = search needs

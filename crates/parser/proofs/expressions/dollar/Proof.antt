@@ -1,12 +1,10 @@
 -- One dollar is passed, and a second one where it follows; the span stays that of the first.
 -- Assumes nothing.
-use mathlib.Core.Path.{_≡_, refl, sym, ap, subst, _∙_}
+use mathlib.Core.Path.{refl, ap, subst}
 use Prim.Native.Nat.{ℕ}
-use native.Mathlib.Omega.{arith}
 use lib.Dec.{eqb}
 use Rattle.lexer.specs.Text.{bytes}
-use Rattle.rules.specs.Records.{VC, VL, VI, VS, PF, IN, encode}
-use Rattle.rules.specs.Expressions.{atomOf}
+use Rattle.rules.specs.Records.{VI, VS, encode}
 use Rattle.parser.specs.Views.{Passes}
 use mathlib.Core.List.{[]}
 use borrow.Author.Tests.{eq-eqb, ne-eqb}
@@ -17,10 +15,6 @@ use Rattle.parser.proofs.ExpressionsReading.{token-writes, token-denied
 use borrow.Author.Needs.{needs}
 use Rattle.parser.proofs.expressions.dollar.Statement.{statement}
 use Rattle.parser.proofs.expressions.dollar.Tie as tie
-use Rattle.parser.proofs.expressions.dollar.Reads as reads
-use Rattle.parser.proofs.expressions.dollar.Lts as lts
-use Rattle.parser.proofs.state.next.Reads as next-reads
-use Rattle.records.proofs.put_span.Reads as put-span-reads
 
 next-requires : tie.Need-next-requires
 next-requires c κs = (c .before .before .pre .0, ap (λ (k : ℕ). eqb k 10) (c .before .before .pre .1), ap (λ (k : ℕ). eqb k 0) (c .before .before .pre .1))

@@ -1,13 +1,11 @@
 -- The two tests together say that the number fits 32 signed bits.
 -- Assumes nothing.
-use mathlib.Core.Path.{_≡_, sym, ap, _∙_}
+use mathlib.Core.Path.{sym, ap, _∙_}
 use mir.Facts.{toZ-ofZ}
 use Rattle.rules.specs.Calls.{gives}
 use Rattle.parser.proofs.ExpressionsEvaluate.{low, high, fits-32, within}
 use Rattle.parser.proofs.expressions.in_range.Statement.{statement}
 use Rattle.parser.proofs.expressions.in_range.Tie as tie
-use Rattle.parser.proofs.expressions.in_range.Reads as reads
-use Rattle.parser.proofs.expressions.in_range.Lts as lts
 
 returns : tie.Need-returns
 returns c = sym (low _ (rw (toZ-ofZ (c .before .fits .v)) at (c .if1 .taken)))
@@ -19,7 +17,7 @@ cast-t3 : tie.Need-cast-t3
 cast-t3 c = rw (toZ-ofZ (c .before .before .fits .v)) (fits-32 (rw (toZ-ofZ (c .before .before .fits .v)) at (c .before .if1 .left)) (rw (toZ-ofZ (c .before .before .fits .v)) at (c .if2 .left)))
 
 returns-3 : tie.Need-returns-3
-returns-3 c = 
+returns-3 c =
     let f = toZ-ofZ (c .before .before .fits .v) in
     ap gives (toZ-ofZ (cast-t3 c) ∙ f) ∙ sym (within (rw (toZ-ofZ (c .before .before .fits .v)) at (c .before .if1 .left)) (rw (toZ-ofZ (c .before .before .fits .v)) at (c .if2 .left)))
 

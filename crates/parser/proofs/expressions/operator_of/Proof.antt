@@ -1,6 +1,6 @@
 -- Each of the four characters is its operator, and no other byte is one.
 -- Assumes nothing.
-use mathlib.Core.Path.{_≡_, sym}
+use mathlib.Core.Path.{sym}
 use Rattle.lexer.specs.Text.{is}
 use Rattle.rules.specs.Reader.{isMark}
 use Rattle.rules.specs.Expressions.{operatorOf}

@@ -3,7 +3,7 @@
 use mathlib.Core.Path.{_≡_, sym, ap, _∙_}
 use lib.IntN.{ℤ, _+ℤ_, _-ℤ_, _*ℤ_}
 use lib.Signed.{quotZ}
-use Rattle.rules.specs.Calls.{Result, unless}
+use Rattle.rules.specs.Calls.{unless}
 use Rattle.rules.specs.Evaluate.{signed32, evaluate}
 use Rattle.parser.specs.declared.expressions.Operator.{Operator}
 use Rattle.parser.specs.Operators.{operatorNumber}
@@ -11,9 +11,6 @@ use Rattle.parser.proofs.ExpressionsEvaluate.{sum-fits, difference-fits
 use borrow.Author.Needs.{needs}
 use Rattle.parser.proofs.expressions.Operator.evaluate.Statement.{statement}
 use Rattle.parser.proofs.expressions.Operator.evaluate.Tie as tie
-use Rattle.parser.proofs.expressions.Operator.evaluate.Reads as reads
-use Rattle.parser.proofs.expressions.Operator.evaluate.Lts as lts
-use Rattle.parser.proofs.expressions.in_range.Reads as in-range-reads
 
 by-operator : {o o′ : Operator} (a b : ℤ) → o ≡ o′ → evaluate (operatorNumber o) a b ≡ evaluate (operatorNumber o′) a b
 by-operator a b e = ap (λ (p : Operator). evaluate (operatorNumber p) a b) e

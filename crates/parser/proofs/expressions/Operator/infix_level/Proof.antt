@@ -1,14 +1,12 @@
 -- The levels are those of the rules, operator by operator.
 -- Assumes nothing.
-use mathlib.Core.Path.{_≡_, sym, ap}
+use mathlib.Core.Path.{sym, ap}
 use Rattle.rules.specs.Expressions.{leftLevel}
 use Rattle.parser.specs.declared.expressions.Operator.{Operator}
 use Rattle.parser.specs.Operators.{operatorNumber}
 use borrow.Author.Needs.{needs}
 use Rattle.parser.proofs.expressions.Operator.infix_level.Statement.{statement}
 use Rattle.parser.proofs.expressions.Operator.infix_level.Tie as tie
-use Rattle.parser.proofs.expressions.Operator.infix_level.Reads as reads
-use Rattle.parser.proofs.expressions.Operator.infix_level.Lts as lts
 
 enum-told : tie.Need-enum-told
 enum-told c = search needs

@@ -1,13 +1,11 @@
 -- Only the two signs stand before an operand.
 -- Assumes nothing.
-use mathlib.Core.Path.{_≡_, sym, ap}
+use mathlib.Core.Path.{sym, ap}
 use Rattle.parser.specs.Operators.{prefixLevelOf}
 use Rattle.rules.specs.Expressions.{prefixLevel}
 use borrow.Author.Needs.{needs}
 use Rattle.parser.proofs.expressions.Operator.prefix_level.Statement.{statement}
 use Rattle.parser.proofs.expressions.Operator.prefix_level.Tie as tie
-use Rattle.parser.proofs.expressions.Operator.prefix_level.Reads as reads
-use Rattle.parser.proofs.expressions.Operator.prefix_level.Lts as lts
 
 enum-told : tie.Need-enum-told
 enum-told c = search needs
