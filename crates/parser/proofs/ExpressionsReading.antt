@@ -221,7 +221,8 @@ module _ (s : List ℕ) (p : Parser) (i : ℕ) (l : List ℕ) where
 
 -- the operators behind it
 module _ (s : List ℕ) (q : Parser) (inner : ℕ → Reader Line (Unit {0})) (level f : ℕ) where
-  abbrev turn : ℕ → ℕ → ℕ → Reader Line (Unit {0})
+  -- one of them, with its right operand at a level, and n at most behind it
+  abbrev pub turn : ℕ → ℕ → ℕ → Reader Line (Unit {0})
   turn n op right = next >> (inner right >> (passed >>= λ t. write (IN f t op) >> infixes n inner level f))
 
   module _ {p : Parser} {m : Reader Line (Unit {0})} {i w : ℕ} {l l₁ : List ℕ} where

@@ -5,6 +5,9 @@
 use Prim.Native.Nat.{suc, _+_, _-_, _≤_}
 use mathlib.Core.Path.{_≡_, refl, sym, ap, subst, _∙_}
 use mathlib.Core.List.{[]}
+use mathlib.Core.Bool.{false}
+use mathlib.Core.Option.{some}
+use Rattle.rules.specs.Lexemes.{mark}
 use native.Mathlib.Omega.{arith}
 use native.Mathlib.Nat.{le-refl}
 use borrow.Author.Needs.{needs}
@@ -15,14 +18,14 @@ use lib.ListN.{length}
 use Rattle.lexer.specs.Text.{bytes}
 use Rattle.rules.specs.Records.{PF, IN, encode}
 use Rattle.rules.specs.Reader.{nowhere, _>>_}
-use Rattle.rules.specs.Expressions.{expr}
+use Rattle.rules.specs.Expressions.{operatorOf, expr}
 use Rattle.rules.specs.Expressions.{infixes as infixesOf}
 use Rattle.parser.specs.Views.{lineOf, line, Passes, Reads}
-use Rattle.parser.specs.Operators.{numberIn}
+use Rattle.parser.specs.Operators.{operatorNumber, numberIn}
 use Rattle.parser.proofs.Chain.{Sofar, starts, called, called-denied, comes, ends, denied, lands, writes, returns, refuses, refuses-here, is-passed, is-left, reads-done, reads-refused, hands-on}
 use Rattle.parser.proofs.Flat.{plain}
 use Rattle.parser.proofs.Steps.{has-more, one-less}
-use Rattle.parser.proofs.ExpressionsReading.{operator-inside, right-level, level-small, primary-opens, primary-signed, primary-operand, primary-no-operand, primary-atom, expr-over, expr-begins, none-left, too-loose, turns, positive}
+use Rattle.parser.proofs.ExpressionsReading.{operator-inside, right-level, level-small, primary-opens, primary-signed, primary-operand, primary-no-operand, primary-atom, expr-over, expr-begins, none-left, too-loose, turn, turns, positive}
 use Rattle.parser.proofs.ExpressionsShorter.{no-longer}
 use Prim.Native.Nat.{ℕ, _<_}
 use borrow.Fn.Kinds.{In}
@@ -165,6 +168,28 @@ abbrev infixes-calls : ℕ → infixes-lts.Claims
 infixes-calls t =
     (operator-of-reads.Asked, operator-of-reads.Learnt, infix-level-reads.Asked, infix-level-reads.Learnt, next-reads.Asked, next-reads.Learnt, expression-below t, expression.Post, number-reads.Asked, number-reads.Learnt, put-record-reads.Asked, put-record-reads.Learnt)
 
+-- Where an operator binds tightly enough: its token stands within the line, and one turn of the rules' loop is to be read.
+abbrev Tight : ℕ → Type 0
+Tight t = infixes-lts.Else1 (infixes-calls t) (infixes-at t) infixes.Post infixes-Inv-loop infixes-μ-loop
+
+tight-is : (t : ℕ) (c : Tight t) → operatorOf (mark (c .before .before .before .before .before .before .loop .q .kind)) ≡ some (operatorNumber (c .before .before .before .op .given .0 .0))
+tight-is t c = sym (c .before .before .before .before .before .operator-of .ensures) ∙ ap numberIn (c .before .before .before .op .given .1)
+
+tight-inside : (t : ℕ) (c : Tight t) → (eqb (c .before .before .before .before .before .before .loop .q .kind) 10 ≡ false) × (eqb (c .before .before .before .before .before .before .loop .q .kind) 0 ≡ false)
+tight-inside t c = operator-inside _ (tight-is t c)
+
+tight-fuel : (t : ℕ) (c : Tight t) → (k : ℕ) × (c .before .before .before .before .before .before .loop .inv .0 ≡ suc k)
+tight-fuel t c =
+    let (n, z) = tight-inside t c in
+    positive (c .before .before .before .before .before .before .loop .inv .0) (omega (arith, has-more (now (c .before .before .before .before .before .before .before .before .before .args .src)) (c .before .before .before .before .before .before .loop .q) n z, c .before .before .before .before .before .before .loop .inv .1))
+
+tight-turn : (t : ℕ) (c : Tight t) →
+    Sofar line (now (c .before .before .before .before .before .before .before .before .before .args .src)) (c .before .before .before .before .before .before .before .before .before .args .p) (infixesOf (length (lineOf (now (c .before .before .before .before .before .before .before .before .before .args .src)) (c .before .before .before .before .before .before .before .before .before .args .p) .more)) (expr (c .before .before .before .before .before .before .before .before .before .args .deeper)) (c .before .before .before .before .before .before .before .before .before .args .level) (c .before .before .before .before .before .before .before .before .before .args .from)) (c .before .before .before .before .before .before .before .before .before .args .at) (now (c .before .before .before .before .before .before .before .before .before .args .out))
+    (c .before .before .before .before .before .before .loop .q) (turn (now (c .before .before .before .before .before .before .before .before .before .args .src)) (c .before .before .before .before .before .before .loop .q) (expr (c .before .before .before .before .before .before .before .before .before .args .deeper)) (c .before .before .before .before .before .before .before .before .before .args .level) (c .before .before .before .before .before .before .before .before .before .args .from) (tight-fuel t c .0) (operatorNumber (c .before .before .before .op .given .0 .0)) (c .before .infix-level .result + 1)) (c .before .before .before .before .before .before .loop .w) (c .before .before .before .before .before .before .loop .out)
+tight-turn t c =
+    let right = sym (ap (λ (n : ℕ). n + 1) (c .before .infix-level .ensures) ∙ right-level (c .before .before .before .op .given .0 .0)) in
+    turns _ _ _ _ _ (tight-is t c) (tight-fuel t c .1) (rw (← c .before .infix-level .ensures) (le-ltb _ _ (c .if1 .left))) right (c .before .before .before .before .before .before .loop .inv .2)
+
 infixes-loop-holds : (t : ℕ) → infixes-lts.Need-loop-holds (infixes-calls t) (infixes-at t) infixes.Post infixes-Inv-loop infixes-μ-loop
 infixes-loop-holds t c = (length (lineOf (now (c .before .before .args .src)) (c .before .before .args .p) .more), le-refl _, starts _ _ _ _ _ _)
 
@@ -193,7 +218,7 @@ infixes-returns-2 : (t : ℕ) → infixes-lts.Need-returns-2 (infixes-calls t) (
 infixes-returns-2 t c = reads-done (lands (too-loose _ _ _ _ _ (sym (c .before .before .before .before .before .operator-of .ensures) ∙ ap numberIn (c .before .before .before .op .given .1)) _ (rw (← c .before .infix-level .ensures) (lt-ltb _ _ (c .if1 .taken))) (c .before .before .before .before .before .before .loop .inv .2)) (returns tt))
 
 infixes-next-requires : (t : ℕ) → infixes-lts.Need-next-requires (infixes-calls t) (infixes-at t) infixes.Post infixes-Inv-loop infixes-μ-loop
-infixes-next-requires t c κs = let i = operator-inside _ (sym (c .before .before .before .before .before .operator-of .ensures) ∙ ap numberIn (c .before .before .before .op .given .1)) in (c .before .before .before .before .before .before .before .before .before .pre .1, i .0, i .1)
+infixes-next-requires t c κs = let (n, z) = tight-inside t c in (c .before .before .before .before .before .before .before .before .before .pre .1, n, z)
 
 infixes-enum-known-r : (t : ℕ) → infixes-lts.Need-enum-known-r (infixes-calls t) (infixes-at t) infixes.Post infixes-Inv-loop infixes-μ-loop
 infixes-enum-known-r t c = search needs
@@ -203,11 +228,7 @@ infixes-same-length-3 t c = c .before .before .before .before .before .before .b
 
 infixes-returns-3 : (t : ℕ) → infixes-lts.Need-returns-3 (infixes-calls t) (infixes-at t) infixes.Post infixes-Inv-loop infixes-μ-loop
 unfolding _>>_
-infixes-returns-3 t c =
-    let i = operator-inside _ (sym (c .before .before .before .before .before .before .before .before .before .operator-of .ensures) ∙ ap numberIn (c .before .before .before .before .before .before .before .op .given .1)) in
-    let more = has-more (now (c .before .before .before .before .before .before .before .before .before .before .before .before .before .args .src)) (c .before .before .before .before .before .before .before .before .before .before .loop .q) (i .0) (i .1) in
-    let fuel = positive (c .before .before .before .before .before .before .before .before .before .before .loop .inv .0) (omega (arith, c .before .before .before .before .before .before .before .before .before .before .loop .inv .1)) in
-    reads-refused (called-denied _ _ (turns _ _ _ _ _ (sym (c .before .before .before .before .before .before .before .before .before .operator-of .ensures) ∙ ap numberIn (c .before .before .before .before .before .before .before .op .given .1)) (fuel .1) (rw (← c .before .before .before .before .before .infix-level .ensures) (le-ltb _ _ (c .before .before .before .before .if1 .left))) (sym (ap (λ (n : ℕ). n + 1) (c .before .before .before .before .before .infix-level .ensures) ∙ right-level (c .before .before .before .before .before .before .before .op .given .0 .0))) (c .before .before .before .before .before .before .before .before .before .before .loop .inv .2)) (subst (Passes _ _ _ _) (c .before .r .given .1) (c .before .before .before .next .ensures) .so))
+infixes-returns-3 t c = reads-refused (called-denied _ _ (tight-turn t (c .before .before .before .before)) (subst (Passes _ _ _ _) (c .before .r .given .1) (c .before .before .before .next .ensures) .so))
 
 infixes-enum-known-behind : (t : ℕ) → infixes-lts.Need-enum-known-behind (infixes-calls t) (infixes-at t) infixes.Post infixes-Inv-loop infixes-μ-loop
 infixes-enum-known-behind t c = search needs
@@ -226,11 +247,7 @@ infixes-same-length-4 t c = c .before .before .before .before .before .expressio
 
 infixes-returns-4 : (t : ℕ) → infixes-lts.Need-returns-4 (infixes-calls t) (infixes-at t) infixes.Post infixes-Inv-loop infixes-μ-loop
 unfolding _>>_
-infixes-returns-4 t c =
-    let i = operator-inside _ (sym (c .before .before .before .before .before .before .before .before .before .before .before .before .before .before .before .before .operator-of .ensures) ∙ ap numberIn (c .before .before .before .before .before .before .before .before .before .before .before .before .before .before .op .given .1)) in
-    let more = has-more (now (c .before .before .before .before .before .before .before .before .before .before .before .before .before .before .before .before .before .before .before .before .args .src)) (c .before .before .before .before .before .before .before .before .before .before .before .before .before .before .before .before .before .loop .q) (i .0) (i .1) in
-    let fuel = positive (c .before .before .before .before .before .before .before .before .before .before .before .before .before .before .before .before .before .loop .inv .0) (omega (arith, c .before .before .before .before .before .before .before .before .before .before .before .before .before .before .before .before .before .loop .inv .1)) in
-    reads-refused (called-denied _ _ (comes _ _ (turns _ _ _ _ _ (sym (c .before .before .before .before .before .before .before .before .before .before .before .before .before .before .before .before .operator-of .ensures) ∙ ap numberIn (c .before .before .before .before .before .before .before .before .before .before .before .before .before .before .op .given .1)) (fuel .1) (rw (← c .before .before .before .before .before .before .before .before .before .before .before .before .infix-level .ensures) (le-ltb _ _ (c .before .before .before .before .before .before .before .before .before .before .before .if1 .left))) (sym (ap (λ (n : ℕ). n + 1) (c .before .before .before .before .before .before .before .before .before .before .before .before .infix-level .ensures) ∙ right-level (c .before .before .before .before .before .before .before .before .before .before .before .before .before .before .op .given .0 .0))) (c .before .before .before .before .before .before .before .before .before .before .before .before .before .before .before .before .before .loop .inv .2)) (subst (Passes _ _ _ _) (c .before .before .before .before .before .before .before .before .behind .given .1) (c .before .before .before .before .before .before .before .before .before .before .next .ensures) .so)) (subst (Reads _ _ _ _ _ _ _) (c .before .r2 .given .1) (c .before .before .before .before .before .expression .ensures) .so))
+infixes-returns-4 t c = reads-refused (called-denied _ _ (comes _ _ (tight-turn t (c .before .before .before .before .before .before .before .before .before .before .before)) (subst (Passes _ _ _ _) (c .before .before .before .before .before .before .before .before .behind .given .1) (c .before .before .before .before .before .before .before .before .before .before .next .ensures) .so)) (subst (Reads _ _ _ _ _ _ _) (c .before .r2 .given .1) (c .before .before .before .before .before .expression .ensures) .so))
 
 infixes-enum-known-right : (t : ℕ) → infixes-lts.Need-enum-known-right (infixes-calls t) (infixes-at t) infixes.Post infixes-Inv-loop infixes-μ-loop
 infixes-enum-known-right t c = search needs
@@ -243,22 +260,21 @@ infixes-put-record-requires t c κs = search needs
 
 infixes-loop-less : (t : ℕ) → infixes-lts.Need-loop-less (infixes-calls t) (infixes-at t) infixes.Post infixes-Inv-loop infixes-μ-loop
 infixes-loop-less t c =
-    let i = operator-inside _ (sym (c .before .before .before .before .before .before .before .before .before .before .before .before .before .before .before .before .before .before .before .before .before .operator-of .ensures) ∙ ap numberIn (c .before .before .before .before .before .before .before .before .before .before .before .before .before .before .before .before .before .before .before .op .given .1)) in
-    let less = one-less (now (c .before .before .before .before .before .before .before .before .before .before .before .before .before .before .before .before .before .before .before .before .before .before .before .before .before .args .src)) (c .before .before .before .before .before .before .before .before .before .before .before .before .before .before .before .before .before .before .before .before .before .before .loop .q) (i .0) (i .1) (subst (Passes _ _ _ _) (c .before .before .before .before .before .before .before .before .before .before .before .before .before .behind .given .1) (c .before .before .before .before .before .before .before .before .before .before .before .before .before .before .before .next .ensures) .so) in
+    let (n, z) = tight-inside t (c .before .before .before .before .before .before .before .before .before .before .before .before .before .before .before .before) in
+    let less = one-less (now (c .before .before .before .before .before .before .before .before .before .before .before .before .before .before .before .before .before .before .before .before .before .before .before .before .before .args .src)) (c .before .before .before .before .before .before .before .before .before .before .before .before .before .before .before .before .before .before .before .before .before .before .loop .q) n z (subst (Passes _ _ _ _) (c .before .before .before .before .before .before .before .before .before .before .before .before .before .behind .given .1) (c .before .before .before .before .before .before .before .before .before .before .before .before .before .before .before .next .ensures) .so) in
     let no-more = no-longer _ _ (subst (Reads _ _ _ _ _ _ _) (c .before .before .before .before .before .before .right .given .1) (c .before .before .before .before .before .before .before .before .before .before .expression .ensures) .so) in
     omega arith
 
 infixes-loop-again : (t : ℕ) → infixes-lts.Need-loop-again (infixes-calls t) (infixes-at t) infixes.Post infixes-Inv-loop infixes-μ-loop
 unfolding _>>_ encode bytes
 infixes-loop-again t c =
-    let i = operator-inside _ (sym (c .before .before .before .before .before .before .before .before .before .before .before .before .before .before .before .before .before .before .before .before .before .operator-of .ensures) ∙ ap numberIn (c .before .before .before .before .before .before .before .before .before .before .before .before .before .before .before .before .before .before .before .op .given .1)) in
-    let less = one-less (now (c .before .before .before .before .before .before .before .before .before .before .before .before .before .before .before .before .before .before .before .before .before .before .before .before .before .args .src)) (c .before .before .before .before .before .before .before .before .before .before .before .before .before .before .before .before .before .before .before .before .before .before .loop .q) (i .0) (i .1) (subst (Passes _ _ _ _) (c .before .before .before .before .before .before .before .before .before .before .before .before .before .behind .given .1) (c .before .before .before .before .before .before .before .before .before .before .before .before .before .before .before .next .ensures) .so) in
+    let (n, z) = tight-inside t (c .before .before .before .before .before .before .before .before .before .before .before .before .before .before .before .before) in
+    let less = one-less (now (c .before .before .before .before .before .before .before .before .before .before .before .before .before .before .before .before .before .before .before .before .before .before .before .before .before .args .src)) (c .before .before .before .before .before .before .before .before .before .before .before .before .before .before .before .before .before .before .before .before .before .before .loop .q) n z (subst (Passes _ _ _ _) (c .before .before .before .before .before .before .before .before .before .before .before .before .before .behind .given .1) (c .before .before .before .before .before .before .before .before .before .before .before .before .before .before .before .next .ensures) .so) in
     let no-more = no-longer _ _ (subst (Reads _ _ _ _ _ _ _) (c .before .before .before .before .before .before .right .given .1) (c .before .before .before .before .before .before .before .before .before .before .expression .ensures) .so) in
-    let more = has-more (now (c .before .before .before .before .before .before .before .before .before .before .before .before .before .before .before .before .before .before .before .before .before .before .before .before .before .args .src)) (c .before .before .before .before .before .before .before .before .before .before .before .before .before .before .before .before .before .before .before .before .before .before .loop .q) (i .0) (i .1) in
-    let fuel = positive (c .before .before .before .before .before .before .before .before .before .before .before .before .before .before .before .before .before .before .before .before .before .before .loop .inv .0) (omega (arith, c .before .before .before .before .before .before .before .before .before .before .before .before .before .before .before .before .before .before .before .before .before .before .loop .inv .1)) in (
+    let fuel = tight-fuel t (c .before .before .before .before .before .before .before .before .before .before .before .before .before .before .before .before) in (
       fuel .0,
       omega (arith, c .before .before .before .before .before .before .before .before .before .before .before .before .before .before .before .before .before .before .before .before .before .before .loop .inv .1, fuel .1),
-      called _ _ (comes _ _ (called _ _ (comes _ _ (turns _ _ _ _ _ (sym (c .before .before .before .before .before .before .before .before .before .before .before .before .before .before .before .before .before .before .before .before .before .operator-of .ensures) ∙ ap numberIn (c .before .before .before .before .before .before .before .before .before .before .before .before .before .before .before .before .before .before .before .op .given .1)) (fuel .1) (rw (← c .before .before .before .before .before .before .before .before .before .before .before .before .before .before .before .before .before .infix-level .ensures) (le-ltb _ _ (c .before .before .before .before .before .before .before .before .before .before .before .before .before .before .before .before .if1 .left))) (sym (ap (λ (n : ℕ). n + 1) (c .before .before .before .before .before .before .before .before .before .before .before .before .before .before .before .before .before .infix-level .ensures) ∙ right-level (c .before .before .before .before .before .before .before .before .before .before .before .before .before .before .before .before .before .before .before .op .given .0 .0))) (c .before .before .before .before .before .before .before .before .before .before .before .before .before .before .before .before .before .before .before .before .before .before .loop .inv .2)) (subst (Passes _ _ _ _) (c .before .before .before .before .before .before .before .before .before .before .before .before .before .behind .given .1) (c .before .before .before .before .before .before .before .before .before .before .before .before .before .before .before .next .ensures) .so)) (subst (Reads _ _ _ _ _ _ _) (c .before .before .before .before .before .before .right .given .1) (c .before .before .before .before .before .before .before .before .before .before .expression .ensures) .so)) is-passed) (writes (IN _ _ _) (rw (c .before .before .before .number .ensures) at (c .before .before .put-record .ensures))),
+      called _ _ (comes _ _ (called _ _ (comes _ _ (tight-turn t (c .before .before .before .before .before .before .before .before .before .before .before .before .before .before .before .before)) (subst (Passes _ _ _ _) (c .before .before .before .before .before .before .before .before .before .before .before .before .before .behind .given .1) (c .before .before .before .before .before .before .before .before .before .before .before .before .before .before .before .next .ensures) .so)) (subst (Reads _ _ _ _ _ _ _) (c .before .before .before .before .before .before .right .given .1) (c .before .before .before .before .before .before .before .before .before .before .expression .ensures) .so)) is-passed) (writes (IN _ _ _) (rw (c .before .before .before .number .ensures) at (c .before .before .put-record .ensures))),
     )
 
 abbrev parenthesis-calls : ℕ → parenthesis-lts.Claims
