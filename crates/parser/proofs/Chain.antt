@@ -20,7 +20,7 @@ use Rattle.parser.specs.declared.state.Step.{Step}
 use Rattle.parser.specs.declared.state.Step.the-variants.{Ahead, Stopped}
 use Rattle.parser.specs.declared.state.Parsed.{Parsed}
 use Rattle.parser.specs.declared.state.Parsed.the-variants.{Done, Refused}
-use Rattle.parser.specs.Views.{numbersOf, hereOf, stateOf, lineOf, rowsOf, Level, line, whole, On, view, Kept, Gives, Denies, Comes, Reads, Passes}
+use Rattle.parser.specs.Views.{numbersOf, hereOf, stateOf, lineOf, rowsOf, Level, line, whole, On, view, Kept, Gives, Denies, Comes, Reads, ReadsAs, Passes}
 
 after-after : {S A : Type 0} (a b : List Record) (o : Answer S A) → after a (after b o) ≡ after (a ++ b) o
 unfolding after
@@ -163,3 +163,12 @@ module _ {s : List ℕ} {p : Parser} {A : Type 0} {m : Reader Line A} where
   pub lifts-denied : {r : Refusal} → Denies line s p m r → Denies whole s p (inLine m) r
   unfolding inLine over
   lifts-denied h = record { cause = h .cause; reads = ap (over (rowsOf s p)) (h .reads); numbers = h .numbers }
+
+-- what is left is another function's
+pub hands-on : {L : Level} {s : List ℕ} {p q : Parser} {m m₁ : Reader (On L) (Unit {0})} {i w : ℕ} {l l₁ l₂ : List ℕ} {r : Parsed}
+    → Sofar L s p m i l q m₁ w l₁ → Reads L s q m₁ w l₁ l₂ r → Reads L s p m i l l₂ r
+hands-on {L} {s} {p} {q} {m} {m₁} {i} {w} {l} {l₁} {l₂} {r} so h = record { so = go r (h .so) }
+  where
+    go : (r : Parsed) → ReadsAs L s q m₁ w l₁ l₂ r → ReadsAs L s p m i l l₂ r
+    go (Done q₂ w₂) k = ends so k
+    go (Refused x) k = denied so k

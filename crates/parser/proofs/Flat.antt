@@ -120,3 +120,17 @@ flat-kind (Refused n TooLarge) r u h g z = refl
 -- a byte that is m is not n
 pub other-byte : (k m n : ℕ) → eqb k m ≡ true → eqb m n ≡ false → eqb k n ≡ false
 other-byte k m n e f = rw (eqb-true k m e) f
+
+-- A character of no other token, by one test: `plain ")" refl`.
+pub plain : (a : Char) → let n = code a in
+    (eqb 97 n || (eqb 48 n || (eqb 39 n || (eqb 34 n || (eqb 10 n || (eqb 0 n || (eqb 33 n || (eqb 30 n || eqb 31 n)))))))) ≡ false → Plain a
+plain a e =
+    let (b, e₁) = or-false _ _ e in
+    let (c, e₂) = or-false _ _ e₁ in
+    let (d, e₃) = or-false _ _ e₂ in
+    let (f, e₄) = or-false _ _ e₃ in
+    let (g, e₅) = or-false _ _ e₄ in
+    let (h, e₆) = or-false _ _ e₅ in
+    let (i, e₇) = or-false _ _ e₆ in
+    let (j, k) = or-false _ _ e₇ in
+    record { word′ = b; number′ = c; closed′ = d; open′ = f; feed′ = g; end′ = h; stray′ = i; digit′ = j; large′ = k }

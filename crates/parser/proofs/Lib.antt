@@ -4,3 +4,6 @@ pub mod Stream
 pub mod Steps
 pub mod Lent
 pub mod FullReads
+pub mod ExpressionsReading
+pub mod ExpressionsEvaluate
+pub mod ExpressionsShorter

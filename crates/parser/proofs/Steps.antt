@@ -1,16 +1,20 @@
 -- From a token to the next: within a line, and from a line's end to the next line.
 -- Assumes nothing.
-use Prim.Native.Nat.{ℕ, zero, suc, _+_, _≤_, _<_}
+use Prim.Native.Nat.{ℕ, zero, suc, pred, _+_, _≤_, _<_}
 use mathlib.Core.Path.{_≡_, refl, sym, ap, _∙_}
 use mathlib.Core.List.{List, [], _∷_}
 use mathlib.Core.Bool.{Bool, true, false, _||_}
 use mathlib.Core.Option.{Option, none, some}
 use native.Mathlib.Omega.{arith}
+use native.Mathlib.Nat.{le-refl, not-suc-le-zero}
 use lib.Dec.{eqb}
 use Prim.Native.Char.{Char, code}
-use lib.ListN.{length}
+use lib.ListN.{length, drop}
 use Rattle.lexer.specs.Text.{if_then_else_, maybe}
-use Rattle.rules.specs.Lexemes.{Kind, Lexeme}
+use Rattle.lexer.specs.Tokens.{tokenAt, sizeOf}
+use Rattle.lexer.specs.declared.TokenRead.{TokenRead}
+use Rattle.lexer.proofs.Branches.{either}
+use Rattle.rules.specs.Lexemes.{Kind, Lexeme, isGap, kindOf, lexeme, put, tokensFrom}
 use Rattle.rules.specs.Reader.{Answer, done, refused, Reader, Line, thence, _>>=_, arrive, step, next, kind, expect, refuseHere, isLineEnd, refusedAs}
 use Rattle.rules.specs.Reader.{Refusal as Cause, at as at-span}
 use Rattle.rules.specs.Statements.{Row, State, firstOf, enter, stepRow, nextRow}
@@ -96,3 +100,37 @@ module _ (s : List ℕ) (p : Parser) (a : Char) (n : ℕ) (h : Plain a) where
   pub expect-denied : eqb (p .kind) (code a) ≡ false → Passes line s p (expect a n) (Stopped (numbersOf (at-span n (p .«token_start») (p .pos))))
   unfolding refuseHere
   expect-denied e = record { so = record { cause = at-span n (p .«token_start») (p .pos); reads = expect-is ∙ rw e; numbers = refl } }
+
+-- The end of the source stands among its tokens, so there are some from any place on.
+put-some : (at : ℕ) (t : TokenRead) (u : List ℕ) (xs : List Lexeme) → 1 ≤ length xs → 1 ≤ length (put at t u xs)
+unfolding put
+put-some at t u xs h = either (λ (l : List Lexeme). 1 ≤ length l) (isGap (kindOf t u)) xs (lexeme at t u ∷ xs) h (omega arith)
+
+some-tokens : (at k : ℕ) (u : List ℕ) → 1 ≤ length (tokensFrom at k u)
+unfolding tokensFrom
+some-tokens at k [] = le-refl 1
+some-tokens at zero (c ∷ cs) = put-some at (tokenAt (c ∷ cs)) (c ∷ cs) _ (some-tokens (suc at) (pred (sizeOf (tokenAt (c ∷ cs)))) cs)
+some-tokens at (suc k) (c ∷ cs) = some-tokens (suc at) k cs
+
+arrived : (x : Lexeme) (s t : Line) (o : Option ℕ) → _≡_ {A = Answer Line (Unit {0})} (maybe o (done [] tt s) (λ n. refused (at-span n (x .from) (x .to)))) (done [] tt t) → s ≡ t
+arrived x s t none e = cc
+arrived x s t (some n) e = cc
+
+stepped : (s t : Line) (xs : List Lexeme) → 1 ≤ length xs → step xs s ≡ done [] tt t → length xs ≡ suc (length (t .more))
+unfolding step arrive
+stepped s t [] h e = absurd (not-suc-le-zero h)
+stepped s t (x ∷ xs) h e = ap (λ (l : Line). suc (length (l .more))) (arrived x (record { last = s .here .to; here = x; more = xs }) t (refusedAs (x .kind)) e)
+
+-- Behind a token within a line there is another, and passing it leaves one less.
+module _ (s : List ℕ) (p : Parser) (n : eqb (p .kind) 10 ≡ false) (z : eqb (p .kind) 0 ≡ false) where
+  pub has-more : 1 ≤ length (lineOf s p .more)
+  unfolding behind
+  has-more = rw z (go (tokensFrom (p .pos) 0 (drop (p .pos) s)) (some-tokens (p .pos) 0 (drop (p .pos) s)))
+    where
+      go : (xs : List Lexeme) → 1 ≤ length xs → 1 ≤ length (moreOf (hereOf s p) xs)
+      go [] h = absurd (not-suc-le-zero h)
+      go (y ∷ ys) h = rw (more-within (hereOf s p) y ys (line-end-is (p .kind) (p .value) (textOf s (p .«token_start») (p .pos)) ∙ rw (n, z))) (omega arith)
+
+  pub one-less : {q : Parser} → Comes line s p next q tt → length (lineOf s p .more) ≡ suc (length (lineOf s q .more))
+  unfolding next
+  one-less {q} h = stepped (lineOf s p) (lineOf s q) (lineOf s p .more) has-more (h .reads)

@@ -3,3 +3,4 @@ pub mod Answers
 pub mod Lent
 pub mod Statements
 pub mod Calls
+pub mod Operators
