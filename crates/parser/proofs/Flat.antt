@@ -120,3 +120,16 @@ flat-kind (Refused n TooLarge) r u h g z = refl
 -- a byte that is m is not n
 pub other-byte : (k m n : ℕ) → eqb k m ≡ true → eqb m n ≡ false → eqb k n ≡ false
 other-byte k m n e f = rw (eqb-true k m e) f
+
+-- a character is plain by one test
+pub plain : (a : Char) → (eqb 97 (code a) || (eqb 48 (code a) || (eqb 39 (code a) || (eqb 34 (code a) || (eqb 10 (code a) || (eqb 0 (code a) || (eqb 33 (code a) || (eqb 30 (code a) || (eqb 31 (code a)))))))))) ≡ false → Plain a
+plain a e =
+    let (a₁, e₁) = or-false _ _ e in
+    let (a₂, e₂) = or-false _ _ e₁ in
+    let (a₃, e₃) = or-false _ _ e₂ in
+    let (a₄, e₄) = or-false _ _ e₃ in
+    let (a₅, e₅) = or-false _ _ e₄ in
+    let (a₆, e₆) = or-false _ _ e₅ in
+    let (a₇, e₇) = or-false _ _ e₆ in
+    let (a₈, a₉) = or-false _ _ e₇ in
+    record { word′ = a₁; number′ = a₂; closed′ = a₃; open′ = a₄; feed′ = a₅; end′ = a₆; stray′ = a₇; digit′ = a₈; large′ = a₉ }

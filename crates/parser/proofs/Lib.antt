@@ -2,3 +2,4 @@ pub mod Chain
 pub mod Flat
 pub mod Stream
 pub mod Steps
+pub mod OperandLaws

@@ -1,6 +1,6 @@
 -- From a token to the next: within a line, and from a line's end to the next line.
 -- Assumes nothing.
-use Prim.Native.Nat.{ℕ, zero, suc, _+_, _≤_, _<_}
+use Prim.Native.Nat.{ℕ, zero, suc, pred, _+_, _≤_, _<_}
 use mathlib.Core.Path.{_≡_, refl, sym, ap, _∙_}
 use mathlib.Core.List.{List, [], _∷_}
 use mathlib.Core.Bool.{Bool, true, false, _||_}
@@ -8,9 +8,11 @@ use mathlib.Core.Option.{Option, none, some}
 use native.Mathlib.Omega.{arith}
 use lib.Dec.{eqb}
 use Prim.Native.Char.{Char, code}
-use lib.ListN.{length}
+use lib.ListN.{length, drop}
 use Rattle.lexer.specs.Text.{if_then_else_, maybe}
-use Rattle.rules.specs.Lexemes.{Kind, Lexeme}
+use Rattle.lexer.specs.Tokens.{tokenAt, sizeOf}
+use Rattle.lexer.specs.declared.TokenRead.{TokenRead}
+use Rattle.rules.specs.Lexemes.{Kind, newline, Lexeme, isGap, kindOf, lexeme, put, tokensFrom}
 use Rattle.rules.specs.Reader.{Answer, done, refused, Reader, Line, thence, _>>=_, arrive, step, next, kind, expect, refuseHere, isLineEnd, refusedAs}
 use Rattle.rules.specs.Reader.{Refusal as Cause, at as at-span}
 use Rattle.rules.specs.Statements.{Row, State, firstOf, enter, stepRow, nextRow}
@@ -96,3 +98,35 @@ module _ (s : List ℕ) (p : Parser) (a : Char) (n : ℕ) (h : Plain a) where
   pub expect-denied : eqb (p .kind) (code a) ≡ false → Passes line s p (expect a n) (Stopped (numbersOf (at-span n (p .«token_start») (p .pos))))
   unfolding refuseHere
   expect-denied e = record { so = record { cause = at-span n (p .«token_start») (p .pos); reads = expect-is ∙ rw e; numbers = refl } }
+
+-- Within a line a token stands behind the one ahead, and what is behind gets shorter by each token passed.
+put-some : (at : ℕ) (t : TokenRead) (s : List ℕ) (ys : List Lexeme) → (y : Lexeme) × (zs : List Lexeme) × (ys ≡ y ∷ zs) → (y : Lexeme) × (zs : List Lexeme) × (put at t s ys ≡ y ∷ zs)
+unfolding put
+put-some at t s ys (y, zs, e) = go (isGap (kindOf t s))
+  where
+    go : (b : Bool) → (x : Lexeme) × (xs : List Lexeme) × ((if b then ys else (lexeme at t s ∷ ys)) ≡ x ∷ xs)
+    go true = (y, zs, e)
+    go false = (lexeme at t s, ys, refl)
+
+tokens-some : (at k : ℕ) (s : List ℕ) → (y : Lexeme) × (ys : List Lexeme) × (tokensFrom at k s ≡ y ∷ ys)
+unfolding tokensFrom
+tokens-some at k [] = (record { from = at; to = at; kind = newline }, [], refl)
+tokens-some at (suc k) (c ∷ cs) = tokens-some (suc at) k cs
+tokens-some at zero (c ∷ cs) = put-some at (tokenAt (c ∷ cs)) (c ∷ cs) _ (tokens-some (suc at) (pred (sizeOf (tokenAt (c ∷ cs)))) cs)
+
+arrived : (x : Lexeme) {a b : Line} → _≡_ {A = Answer Line (Unit {0})} (arrive x (done [] tt a)) (done [] tt b) → a ≡ b
+unfolding arrive
+arrived x {a} {b} = go (refusedAs (x .kind))
+  where
+    go : (o : Option ℕ) → _≡_ {A = Answer Line (Unit {0})} (maybe o (done [] tt a) (λ n. refused (at-span n (x .from) (x .to)))) (done [] tt b) → a ≡ b
+    go none e = cc
+    go (some n) e = cc
+
+pub one-less : (s : List ℕ) (p q : Parser) → eqb (p .kind) 10 ≡ false → eqb (p .kind) 0 ≡ false → Passes line s p next (Ahead q) → suc (length (lineOf s q .more)) ≡ length (lineOf s p .more)
+unfolding next step behind
+one-less s p q n z h =
+    let (y, ys, e) = tokens-some (p .pos) 0 (drop (p .pos) s) in
+    let b : behind s (p .kind) (p .pos) ≡ y ∷ ys = rw z e in
+    let w : moreOf (hereOf s p) (behind s (p .kind) (p .pos)) ≡ y ∷ moreOf y ys = rw b (more-within (hereOf s p) y ys (line-end-is (p .kind) (p .value) (textOf s (p .«token_start») (p .pos)) ∙ rw (n, z))) in
+    let a = arrived y (rw w at (h .so .reads)) in
+    rw w (ap (λ (l : Line). suc (length (l .more))) (sym a))
