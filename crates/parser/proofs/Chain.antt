@@ -20,7 +20,7 @@ use Rattle.parser.specs.declared.state.Step.{Step}
 use Rattle.parser.specs.declared.state.Step.the-variants.{Ahead, Stopped}
 use Rattle.parser.specs.declared.state.Parsed.{Parsed}
 use Rattle.parser.specs.declared.state.Parsed.the-variants.{Done, Refused}
-use Rattle.parser.specs.Views.{numbersOf, hereOf, stateOf, lineOf, rowsOf, Level, line, whole, On, view, Kept, Gives, Denies, Comes, Reads, Passes}
+use Rattle.parser.specs.Views.{numbersOf, hereOf, stateOf, lineOf, rowsOf, Level, line, whole, On, view, Kept, Gives, Denies, Comes, ReadsAs, Reads, Passes}
 
 after-after : {S A : Type 0} (a b : List Record) (o : Answer S A) → after a (after b o) ≡ after (a ++ b) o
 unfolding after
@@ -163,6 +163,14 @@ module _ {s : List ℕ} {p : Parser} {A : Type 0} {m : Reader Line A} where
   pub lifts-denied : {r : Refusal} → Denies line s p m r → Denies whole s p (inLine m) r
   unfolding inLine over
   lifts-denied h = record { cause = h .cause; reads = ap (over (rowsOf s p)) (h .reads); numbers = h .numbers }
+
+-- what is left is read by another function, whose answer it is
+pub hands : {L : Level} {s : List ℕ} {p q : Parser} {m m₁ : Reader (On L) (Unit {0})} {i w : ℕ} {l l₁ l₂ : List ℕ} {r : Parsed} → Sofar L s p m i l q m₁ w l₁ → Reads L s q m₁ w l₁ l₂ r → Reads L s p m i l l₂ r
+hands {L} {s} {p} {q} {m} {m₁} {i} {w} {l} {l₁} {l₂} {r} so on = record { so = go r (on .so) }
+  where
+    go : (r : Parsed) → ReadsAs L s q m₁ w l₁ l₂ r → ReadsAs L s p m i l l₂ r
+    go (Done q₂ w₂) h = ends so h
+    go (Refused c) h = denied so h
 
 -- readers that write nothing, one after the other
 module _ {L : Level} {s : List ℕ} {p q : Parser} {A B : Type 0} {m : Reader (On L) B} (k : B → Reader (On L) A) {b : B} (h : Comes L s p m q b) where

@@ -1,6 +1,7 @@
--- Operands: what the token ahead names, and that such a token stands within its line.
+-- Operands: what the token ahead names, and that such a token stands within its line; the answers that hold a value.
 -- Assumes nothing.
 use Prim.Native.Nat.{ℕ, zero, suc, _+_, _≤_, _<_}
+use Prim.Native.Char.{Char, code}
 use Prim.Native.String.{String}
 use mathlib.Core.Path.{_≡_, refl, sym, ap, subst, _∙_}
 use mathlib.Core.Bool.{Bool, true, false, _&&_, _||_}
@@ -9,7 +10,7 @@ use mathlib.Core.Logic.{_⊎_, inl, inr}
 use mathlib.Core.Option.{Option, none, some}
 use native.Mathlib.Omega.{arith}
 use lib.Dec.{eqb}
-use borrow.Author.Tests.{eqb-true}
+use borrow.Author.Tests.{eq-eqb, ne-eqb}
 use types.Run.{OneOf}
 use denote.Enum.Declared.{tagOf}
 use Rattle.lexer.specs.Text.{if_then_else_, maybe, bytes, lower, same}
@@ -19,16 +20,23 @@ use Rattle.names.specs.declared.Name.the-variants.{Register, Segment, Size, Oth
 use Rattle.names.proofs.Name as Declared
 use Rattle.rules.specs.Lexemes.{Kind, nameIn}
 use Rattle.rules.specs.Lexemes.{textOf as wordOf}
-use Rattle.rules.specs.Reader.{isLineEnd}
+use Rattle.rules.specs.Reader.{Reader, Line, _>>=_, _>>_, attempt, isMark, isLineEnd, next, ahead}
 use Rattle.rules.specs.Expressions.{expr, expression}
-use Rattle.rules.specs.Operands.{isWord, isNumber}
+use Rattle.rules.specs.Operands.{Operands, isWord, isNumber, operandSized}
 use Rattle.rules.proofs.Progress.{name-inside}
 use Rattle.rules.proofs.Reencode.{same-true}
 use Rattle.parser.specs.declared.state.Parser.{Parser}
 use Rattle.parser.specs.declared.state.Parsed.{Parsed}
-use Rattle.parser.specs.Views.{kindBy, textOf, hereOf, line, Reads}
-use Rattle.parser.specs.Answers.{nameAt}
-use Rattle.parser.proofs.Flat.{by-kind, line-end-is, or-false}
+use Rattle.parser.specs.declared.operands.Looked.{Looked}
+use Rattle.parser.specs.declared.operands.Looked.the-variants as looked
+use Rattle.parser.specs.declared.operands.RegistersRead.{RegistersRead}
+use Rattle.parser.specs.declared.operands.RegistersRead.the-variants as registersRead
+use Rattle.parser.specs.declared.operands.OperandsRead.{OperandsRead}
+use Rattle.parser.specs.declared.operands.OperandsRead.the-variants as operandsRead
+use Rattle.parser.specs.Views.{kindBy, textOf, hereOf, line, Plain, Comes, Reads}
+use Rattle.parser.specs.Answers.{nameAt, LooksAs, Looks, FindsAs, Finds, ReadsRegistersAs, ReadsRegisters, ReadsOperandsAs, ReadsOperands}
+use Rattle.parser.proofs.Chain.{Sofar, becomes, ends, denied, comes, is-ahead, then-comes, then-denied, attempt-finds, attempt-denied}
+use Rattle.parser.proofs.Flat.{by-kind, mark-is, line-end-is, or-false}
 
 -- the rules' expression is the code's outermost
 pub outermost : {s : List ℕ} {p : Parser} {i : ℕ} {l l′ : List ℕ} {r : Parsed} → Reads line s p (expr 32 0) i l l′ r → Reads line s p expression i l l′ r
@@ -169,3 +177,60 @@ module _ {x : Name} (k : Kind) (is : x ≡ nameAt k) where
       go : (o : Option ℕ) → nameIn registers k ≡ o → nameIn segments k ≡ none
       go none e = not-segment (nameIn registers k) (nameIn segments k) (nameIn sizes k) (rw is at h) e
       go (some n) e = register-no-segment k e
+
+-- What is left is read by another function, whose answer it is.
+module _ {s : List ℕ} {p q : Parser} {B : Type 0} {m : Reader Line B} {b : B} where
+  pub then-looks : (k : B → Reader Line ℕ) → Comes line s p m q b → {r : Looked} → Looks s q (k b) r → Looks s p (m >>= k) r
+  then-looks k h {r} on = record { so = go r (on .so) }
+    where
+      go : (r : Looked) → LooksAs s q (k b) r → LooksAs s p (m >>= k) r
+      go (looked.Found q₂ n) g = then-comes k h g
+      go (looked.Stopped c) g = then-denied k h g
+
+  module _ (k : B → Reader Line (Option ℕ)) (h : Comes line s p m q b) where
+    pub then-finds : {r : Looked} → Finds s q (k b) r → Finds s p (m >>= k) r
+    then-finds {r} on = record { so = go r (on .so) }
+      where
+        go : (r : Looked) → FindsAs s q (k b) r → FindsAs s p (m >>= k) r
+        go (looked.Found q₂ n) g = then-comes k h g
+        go (looked.Stopped c) g = then-denied k h g
+
+    pub then-registers : {r : RegistersRead} → ReadsRegisters s q (k b) r → ReadsRegisters s p (m >>= k) r
+    then-registers {r} on = record { so = go r (on .so) }
+      where
+        go : (r : RegistersRead) → ReadsRegistersAs s q (k b) r → ReadsRegistersAs s p (m >>= k) r
+        go (registersRead.Ahead q₂ e) g = then-comes k h g
+        go (registersRead.Stopped c) g = then-denied k h g
+
+pub attempt-looks : {s : List ℕ} {p : Parser} {m : Reader Line (Option ℕ)} (a : ℕ) {r : Looked} → Finds s p m r → Looks s p (attempt m a) r
+attempt-looks {s} {p} {m} a {r} on = record { so = go r (on .so) }
+  where
+    go : (r : Looked) → FindsAs s p m r → LooksAs s p (attempt m a) r
+    go (looked.Found q n) g = attempt-finds a g
+    go (looked.Stopped c) g = attempt-denied a g
+
+pub hands-operands : {s : List ℕ} {p q : Parser} {m m₁ : Reader Line Operands} {i w : ℕ} {l l₁ l₂ : List ℕ} {r : OperandsRead} → Sofar line s p m i l q m₁ w l₁ → ReadsOperands s q m₁ w l₁ l₂ r → ReadsOperands s p m i l l₂ r
+hands-operands {s} {p} {q} {m} {m₁} {i} {w} {l} {l₁} {l₂} {r} so on = record { so = go r (on .so) }
+  where
+    go : (r : OperandsRead) → ReadsOperandsAs s q m₁ w l₁ l₂ r → ReadsOperandsAs s p m i l l₂ r
+    go (operandsRead.Done q₂ w₂ o) h = ends so h
+    go (operandsRead.Refused c) h = denied so h
+
+-- The token ahead is a mark, or not.
+module _ (s : List ℕ) (p : Parser) (a : Char) (h : Plain a) where
+  pub mark-ahead : p .kind ≡ code a → isMark a (hereOf s p .kind) ≡ true
+  mark-ahead e = mark-is (p .kind) (p .value) (textOf s (p .«token_start») (p .pos)) a h ∙ eq-eqb _ _ e
+
+  pub other-ahead : (p .kind ≡ code a → ⊥) → isMark a (hereOf s p .kind) ≡ false
+  other-ahead e = mark-is (p .kind) (p .value) (textOf s (p .«token_start») (p .pos)) a h ∙ ne-eqb _ _ e
+
+-- One more size word is passed: z, which the code counts from 1.
+pub turns : {s : List ℕ} {p q q₂ : Parser} {m : Reader Line (Unit {0})} {i w : ℕ} {l l₁ : List ℕ} {z y n k : ℕ} (size : ℕ) → Sofar line s p m i l q (operandSized (suc n) size) w l₁
+    → isMark "[" (hereOf s q .kind) ≡ false → nameIn registers (hereOf s q .kind) ≡ none → nameIn segments (hereOf s q .kind) ≡ none → nameIn sizes (hereOf s q .kind) ≡ some z
+    → Comes line s q next q₂ tt → n ≡ suc k → y ≡ suc z → Sofar line s p m i l q₂ (operandSized (suc k) y) w l₁
+unfolding operandSized _>>_
+turns {z = z} {n = n} size so a b c d h e f = rw (f, ← e) (comes next (λ _. operandSized n (suc z)) (becomes (comes ahead _ so is-ahead) (rw (a, b, c, d))) h)
+
+pub positive : (n : ℕ) → 1 ≤ n → (m : ℕ) × (n ≡ suc m)
+positive zero h = absurd (omega arith)
+positive (suc m) h = (m, refl)

@@ -1,3 +1,9 @@
+-- The four parts of an address, one after the other.
+-- Assumes nothing.
+use mathlib.Core.Path.{_≡_, refl, sym, ap, subst, _∙_}
+use Rattle.parser.specs.Views.{line, lineOf, Passes, Reads}
+use Rattle.parser.specs.Answers.{Looks, ReadsRegisters, Displaces}
+use Rattle.parser.proofs.Chain.{starts, called, comes, hands, reads-refused, then-denied, first-denied}
 use borrow.Author.Needs.{needs}
 use Rattle.parser.proofs.operands.address.Statement.{statement}
 use Rattle.parser.proofs.operands.address.Tie as tie
@@ -8,69 +14,53 @@ use Rattle.parser.proofs.operands.displacement.Reads as displacement-re
 use Rattle.parser.proofs.operands.registers_ahead.Reads as registers-ahead-reads
 use Rattle.parser.proofs.operands.segment_override.Reads as segment-override-reads
 
--- src/operands.rt:321:11
 segment-override-requires : tie.Need-segment-override-requires
 segment-override-requires c κs = search needs
 
--- src/operands.rt:322:25
 enum-known-r : tie.Need-enum-known-r
 enum-known-r c = search needs
 
--- src/operands.rt:323:23
 enum-known-q : tie.Need-enum-known-q
 enum-known-q c = search needs
 
--- src/operands.rt:323:44
 registers-ahead-requires : tie.Need-registers-ahead-requires
 registers-ahead-requires c κs = search needs
 
--- src/operands.rt:324:36
 enum-known-r-2 : tie.Need-enum-known-r-2
 enum-known-r-2 c = search needs
 
--- src/operands.rt:325:34
 enum-known-after : tie.Need-enum-known-after
 enum-known-after c = search needs
 
--- src/operands.rt:325:61
 displacement-requires : tie.Need-displacement-requires
 displacement-requires c κs = search needs
 
--- src/operands.rt:326:36
 enum-known-r-3 : tie.Need-enum-known-r-3
 enum-known-r-3 c = search needs
 
--- src/operands.rt:327:33
 enum-known-end : tie.Need-enum-known-end
 enum-known-end c = search needs
 
--- src/operands.rt:328:21
 close-requires : tie.Need-close-requires
 close-requires c κs = search needs
 
--- src/operands.rt:317:1
 returns : tie.Need-returns
-returns c = ?
+returns c = reads-refused (first-denied _ (subst (Looks _ _ _) (c .before .r .given .1) (c .before .before .before .segment-override .ensures) .so))
 
--- src/operands.rt:317:1
 returns-2 : tie.Need-returns-2
-returns-2 c = ?
+returns-2 c = reads-refused (then-denied _ (subst (Looks _ _ _) (c .before .before .before .before .before .q .given .1) (c .before .before .before .before .before .before .before .segment-override .ensures) .so) (first-denied _ (subst (ReadsRegisters _ _ _) (c .before .r2 .given .1) (c .before .before .before .registers-ahead .ensures) .so)))
 
--- src/operands.rt:317:1
 same-length : tie.Need-same-length
 same-length c = search needs
 
--- src/operands.rt:317:1
 returns-3 : tie.Need-returns-3
-returns-3 c = ?
+returns-3 c = reads-refused (then-denied _ (subst (Looks _ _ _) (c .before .before .before .before .before .before .before .before .before .before .before .before .q .given .1) (c .before .before .before .before .before .before .before .before .before .before .before .before .before .before .segment-override .ensures) .so) (then-denied _ (subst (ReadsRegisters _ _ _) (c .before .before .before .before .before .before .before .before .after .given .1) (c .before .before .before .before .before .before .before .before .before .before .registers-ahead .ensures) .so) (first-denied _ (subst (Displaces _ _ _ _ _ _) (c .before .r3 .given .1) (c .before .before .before .before .before .displacement .ensures) .so))))
 
--- src/operands.rt:317:1
 same-length-2 : tie.Need-same-length-2
 same-length-2 c = search needs
 
--- src/operands.rt:317:1
 returns-4 : tie.Need-returns-4
-returns-4 c = ?
+returns-4 c = hands (called _ _ (comes _ _ (comes _ _ (starts _ _ _ _ _ _) (subst (Looks _ _ _) (c .before .before .before .before .before .before .before .before .before .before .before .before .before .before .before .before .q .given .1) (c .before .before .before .before .before .before .before .before .before .before .before .before .before .before .before .before .before .before .segment-override .ensures) .so)) (subst (ReadsRegisters _ _ _) (c .before .before .before .before .before .before .before .before .before .before .before .before .after .given .1) (c .before .before .before .before .before .before .before .before .before .before .before .before .before .before .registers-ahead .ensures) .so)) (subst (Displaces _ _ _ _ _ _) (c .before .before .before .before .before .end .given .1) (c .before .before .before .before .before .before .before .before .before .displacement .ensures) .so)) (c .before .before .close .ensures)
 
 pub address-spec : {M : Type 1} → statement M
 address-spec =

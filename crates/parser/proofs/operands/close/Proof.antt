@@ -1,3 +1,13 @@
+-- The closing bracket is passed; then the registers and the displacement say which record it is, or that it is 32.
+-- Assumes nothing.
+use mathlib.Core.Path.{_≡_, refl, sym, ap, subst, _∙_}
+use borrow.Author.Tests.{eq-eqb, ne-eqb}
+use Rattle.rules.specs.Records.{OD, OX}
+use Rattle.rules.specs.Reader.{at, _>>_}
+use Rattle.rules.specs.Operands.{close}
+use Rattle.parser.specs.Views.{line, lineOf, Passes, Reads}
+use Rattle.parser.proofs.Chain.{starts, ends, comes, reads-done, reads-refused, writes, refuses, is-passed, then-denied, first-denied}
+use Rattle.parser.proofs.Flat.{plain}
 use borrow.Author.Needs.{needs}
 use Rattle.parser.proofs.operands.close.Statement.{statement}
 use Rattle.parser.proofs.operands.close.Tie as tie
@@ -8,65 +18,54 @@ use Rattle.parser.proofs.state.refused_at.Reads as refused-at-reads
 use Rattle.records.proofs.put_direct.Reads as put-direct-reads
 use Rattle.records.proofs.put_indirect.Reads as put-indirect-reads
 
--- src/operands.rt:269:11
 expect-requires : tie.Need-expect-requires
 expect-requires c κs = search needs
 
--- src/operands.rt:270:23
 enum-known-r : tie.Need-enum-known-r
 enum-known-r c = search needs
 
--- src/operands.rt:271:21
 enum-known-q : tie.Need-enum-known-q
 enum-known-q c = search needs
 
--- src/operands.rt:274:37
 enum-known-registers : tie.Need-enum-known-registers
 enum-known-registers c = search needs
 
--- src/operands.rt:280:25
 cast-put-indirect : tie.Need-cast-put-indirect
 cast-put-indirect c = search needs
 
--- src/operands.rt:275:25
 put-indirect-requires : tie.Need-put-indirect-requires
 put-indirect-requires c κs = search needs
 
--- src/operands.rt:288:24
 enum-told : tie.Need-enum-told
 enum-told c = search needs
 
--- src/operands.rt:289:48
 refused-at-requires : tie.Need-refused-at-requires
 refused-at-requires c κs = search needs
 
--- src/operands.rt:289:25
 returns : tie.Need-returns
-returns c = ?
+unfolding close _>>_
+returns c = reads-refused (then-denied _ (subst (Passes _ _ _ _) (c .before .before .before .before .before .q .given .1) (c .before .before .before .before .before .before .before .expect .ensures .so "]" refl (plain "]" refl)) .so) (then-denied _ is-passed (rw (c .before .before .enum-told .given .1, eq-eqb _ _ (c .before .if1 .taken)) (refuses (at 32 _ _) (c .refused-at .ensures)))))
 
--- src/operands.rt:291:25
 put-direct-requires : tie.Need-put-direct-requires
 put-direct-requires c κs = search needs
 
--- src/operands.rt:255:1
 returns-2 : tie.Need-returns-2
-returns-2 c = ?
+unfolding close _>>_
+returns-2 c = reads-refused (first-denied _ (subst (Passes _ _ _ _) (c .before .r .given .1) (c .before .before .before .expect .ensures .so "]" refl (plain "]" refl)) .so))
 
--- src/operands.rt:255:1
 same-length : tie.Need-same-length
 same-length c = search needs
 
--- src/operands.rt:255:1
 returns-3 : tie.Need-returns-3
-returns-3 c = ?
+unfolding close _>>_
+returns-3 c = reads-done (ends (comes _ _ (comes _ _ (starts _ _ _ _ _ _) (subst (Passes _ _ _ _) (c .before .before .before .before .before .before .before .before .q .given .1) (c .before .before .before .before .before .before .before .before .before .before .expect .ensures .so "]" refl (plain "]" refl)) .so)) is-passed) (rw (c .before .before .before .before .before .registers .given .1) (writes (OX _ _ _ _ _ _) (c .before .before .put-indirect .ensures))))
 
--- src/operands.rt:255:1
 same-length-2 : tie.Need-same-length-2
 same-length-2 c = search needs
 
--- src/operands.rt:255:1
 returns-4 : tie.Need-returns-4
-returns-4 c = ?
+unfolding close _>>_
+returns-4 c = reads-done (ends (comes _ _ (comes _ _ (starts _ _ _ _ _ _) (subst (Passes _ _ _ _) (c .before .before .before .before .before .before .before .before .q .given .1) (c .before .before .before .before .before .before .before .before .before .before .expect .ensures .so "]" refl (plain "]" refl)) .so)) is-passed) (rw (c .before .before .before .before .before .enum-told .given .1, ne-eqb _ _ (c .before .before .before .before .if1 .left)) (writes (OD _ _ _ _) (c .before .before .put-direct .ensures))))
 
 pub close-spec : {M : Type 1} → statement M
 close-spec =

@@ -1,3 +1,12 @@
+-- The colon is passed and the second expression read, each as the rules say, and the record is OF.
+-- Assumes nothing.
+use mathlib.Core.Path.{_≡_, refl, sym, ap, subst, _∙_}
+use Rattle.rules.specs.Reader.{_>>_}
+use Rattle.rules.specs.Records.{OF, encode}
+use Rattle.lexer.specs.Text.{bytes}
+use Rattle.parser.specs.Views.{line, lineOf, Passes, Reads}
+use Rattle.parser.proofs.Chain.{starts, ends, called, called-denied, comes, reads-done, reads-refused, writes, is-passed, first-denied, then-denied}
+use Rattle.parser.proofs.OperandLaws.{outermost}
 use borrow.Author.Needs.{needs}
 use Rattle.parser.proofs.operands.far.Statement.{statement}
 use Rattle.parser.proofs.operands.far.Tie as tie
@@ -7,53 +16,44 @@ use Rattle.parser.proofs.expressions.expression.Reads as expression-rea
 use Rattle.parser.proofs.state.next.Reads as next-reads
 use Rattle.records.proofs.put_span.Reads as put-span-reads
 
--- src/operands.rt:106:11
 next-requires : tie.Need-next-requires
 next-requires c κs = search needs
 
--- src/operands.rt:107:23
 enum-known-r : tie.Need-enum-known-r
 enum-known-r c = search needs
 
--- src/operands.rt:108:21
 enum-known-q : tie.Need-enum-known-q
 enum-known-q c = search needs
 
--- src/operands.rt:108:33
 expression-requires : tie.Need-expression-requires
 expression-requires c κs = search needs
 
--- src/operands.rt:109:29
 enum-known-r-2 : tie.Need-enum-known-r-2
 enum-known-r-2 c = search needs
 
--- src/operands.rt:110:26
 enum-known-after : tie.Need-enum-known-after
 enum-known-after c = search needs
 
--- src/operands.rt:112:21
 put-span-requires : tie.Need-put-span-requires
 put-span-requires c κs = search needs
 
--- src/operands.rt:102:1
 returns : tie.Need-returns
-returns c = ?
+unfolding _>>_
+returns c = reads-refused (first-denied _ (subst (Passes _ _ _ _) (c .before .r .given .1) (c .before .before .before .next .ensures) .so))
 
--- src/operands.rt:102:1
 same-length : tie.Need-same-length
 same-length c = search needs
 
--- src/operands.rt:102:1
 returns-2 : tie.Need-returns-2
-returns-2 c = ?
+unfolding _>>_
+returns-2 c = reads-refused (then-denied _ (subst (Passes _ _ _ _) (c .before .before .before .before .before .before .before .before .q .given .1) (c .before .before .before .before .before .before .before .before .before .before .next .ensures) .so) (first-denied _ (outermost (subst (Reads _ _ _ _ _ _ _) (c .before .r2 .given .1) (c .before .before .before .before .before .expression .ensures)) .so)))
 
--- src/operands.rt:102:1
 same-length-2 : tie.Need-same-length-2
 same-length-2 c = search needs
 
--- src/operands.rt:102:1
 returns-3 : tie.Need-returns-3
-returns-3 c = ?
+unfolding _>>_ encode bytes
+returns-3 c = reads-done (ends (comes _ _ (called _ _ (comes _ _ (starts _ _ _ _ _ _) (subst (Passes _ _ _ _) (c .before .before .before .before .before .before .before .before .before .before .before .before .q .given .1) (c .before .before .before .before .before .before .before .before .before .before .before .before .before .before .next .ensures) .so)) (outermost (subst (Reads _ _ _ _ _ _ _) (c .before .before .before .before .before .after .given .1) (c .before .before .before .before .before .before .before .before .before .expression .ensures)) .so)) is-passed) (writes (OF _ _) (c .before .before .put-span .ensures)))
 
 pub far-spec : {M : Type 1} → statement M
 far-spec =

@@ -1,3 +1,11 @@
+-- The register is passed, and what follows it is read.
+-- Assumes nothing.
+use mathlib.Core.Path.{_≡_, refl, sym, ap, subst, _∙_}
+use mathlib.Core.Option.{some}
+use Rattle.rules.specs.Reader.{_>>_}
+use Rattle.parser.specs.Views.{line, lineOf, Passes, Reads}
+use Rattle.parser.specs.Answers.{Looks}
+use Rattle.parser.proofs.Chain.{returns as gives, then-comes, then-denied, first-denied}
 use borrow.Author.Needs.{needs}
 use Rattle.parser.proofs.operands.first.Statement.{statement}
 use Rattle.parser.proofs.operands.first.Tie as tie
@@ -6,41 +14,35 @@ use Rattle.parser.proofs.operands.first.Lts as lts
 use Rattle.parser.proofs.operands.second.Reads as second-reads
 use Rattle.parser.proofs.state.next.Reads as next-reads
 
--- src/operands.rt:211:11
 next-requires : tie.Need-next-requires
 next-requires c κs = search needs
 
--- src/operands.rt:212:23
 enum-known-e : tie.Need-enum-known-e
 enum-known-e c = search needs
 
--- src/operands.rt:213:21
 enum-known-q : tie.Need-enum-known-q
 enum-known-q c = search needs
 
--- src/operands.rt:213:33
 second-requires : tie.Need-second-requires
 second-requires c κs = search needs
 
--- src/operands.rt:214:29
 enum-known-e-2 : tie.Need-enum-known-e-2
 enum-known-e-2 c = search needs
 
--- src/operands.rt:215:27
 enum-known-after : tie.Need-enum-known-after
 enum-known-after c = search needs
 
--- src/operands.rt:206:1
 returns : tie.Need-returns
-returns c = ?
+unfolding _>>_
+returns c = record { so = first-denied _ (subst (Passes _ _ _ _) (c .before .e .given .1) (c .before .before .before .next .ensures) .so) }
 
--- src/operands.rt:206:1
 returns-2 : tie.Need-returns-2
-returns-2 c = ?
+unfolding _>>_
+returns-2 c = record { so = then-denied _ (subst (Passes _ _ _ _) (c .before .before .before .before .before .q .given .1) (c .before .before .before .before .before .before .before .next .ensures) .so) (first-denied _ (subst (Looks _ _ _) (c .before .e2 .given .1) (c .before .before .before .second .ensures) .so)) }
 
--- src/operands.rt:206:1
 returns-3 : tie.Need-returns-3
-returns-3 c = ?
+unfolding _>>_
+returns-3 c = record { so = then-comes _ (subst (Passes _ _ _ _) (c .before .before .before .before .before .q .given .1) (c .before .before .before .before .before .before .before .next .ensures) .so) (then-comes _ (subst (Looks _ _ _) (c .before .after .given .1) (c .before .before .before .second .ensures) .so) (gives (some _))) }
 
 pub first-spec : {M : Type 1} → statement M
 first-spec =

@@ -1,3 +1,12 @@
+-- The bracket is passed; its first token says whether an address, an expression or 24 follows.
+-- Assumes nothing.
+use mathlib.Core.Path.{_≡_, refl, sym, ap, subst, _∙_}
+use borrow.Author.Tests.{eq-eqb, ne-eqb}
+use Rattle.rules.specs.Reader.{_>>_}
+use Rattle.rules.specs.Operands.{memory}
+use Rattle.parser.specs.Views.{line, lineOf, Passes, Reads}
+use Rattle.parser.proofs.Chain.{starts, called, comes, hands, reads-refused, refuses-here, is-ahead, is-kind, then-denied, first-denied}
+use Rattle.parser.proofs.OperandLaws.{outermost, word-is, no-word, number-is, no-number}
 use borrow.Author.Needs.{needs}
 use Rattle.parser.proofs.operands.memory.Statement.{statement}
 use Rattle.parser.proofs.operands.memory.Tie as tie
@@ -9,73 +18,61 @@ use Rattle.parser.proofs.operands.close.Reads as close-reads
 use Rattle.parser.proofs.state.next.Reads as next-reads
 use Rattle.parser.proofs.state.refuse_here.Reads as refuse-here-reads
 
--- src/operands.rt:341:11
 next-requires : tie.Need-next-requires
 next-requires c κs = search needs
 
--- src/operands.rt:342:23
 enum-known-r : tie.Need-enum-known-r
 enum-known-r c = search needs
 
--- src/operands.rt:343:21
 enum-known-q : tie.Need-enum-known-q
 enum-known-q c = search needs
 
--- src/operands.rt:346:17
 address-requires : tie.Need-address-requires
 address-requires c κs = search needs
 
--- src/operands.rt:346:17
 same-length : tie.Need-same-length
 same-length c = search needs
 
--- src/operands.rt:346:17
 returns : tie.Need-returns
-returns c = ?
+unfolding memory _>>_
+returns c = hands (comes _ _ (comes _ _ (comes _ _ (starts _ _ _ _ _ _) is-ahead) (subst (Passes _ _ _ _) (c .before .before .before .before .before .before .q .given .1) (c .before .before .before .before .before .before .before .before .next .ensures) .so)) is-kind) (rw (word-is _ _ _ (eq-eqb _ _ (c .before .before .before .before .if1 .taken))) (c .before .before .address .ensures))
 
--- src/operands.rt:349:30
 expression-requires : tie.Need-expression-requires
 expression-requires c κs = search needs
 
--- src/operands.rt:350:37
 enum-known-r-2 : tie.Need-enum-known-r-2
 enum-known-r-2 c = search needs
 
--- src/operands.rt:351:34
 enum-known-end : tie.Need-enum-known-end
 enum-known-end c = search needs
 
--- src/operands.rt:352:25
 close-requires : tie.Need-close-requires
 close-requires c κs = search needs
 
--- src/operands.rt:349:17
 same-length-2 : tie.Need-same-length-2
 same-length-2 c = search needs
 
--- src/operands.rt:349:17
 returns-2 : tie.Need-returns-2
-returns-2 c = ?
+unfolding memory _>>_
+returns-2 c = reads-refused (then-denied _ is-ahead (then-denied _ (subst (Passes _ _ _ _) (c .before .before .before .before .before .before .before .before .before .before .q .given .1) (c .before .before .before .before .before .before .before .before .before .before .before .before .next .ensures) .so) (then-denied _ is-kind (rw (no-word _ _ _ (ne-eqb _ _ (c .before .before .before .before .before .before .before .before .if1 .left)), number-is _ _ _ (ne-eqb _ _ (c .before .before .before .before .before .before .before .before .if1 .left)) (eq-eqb _ _ (c .before .before .before .before .before .before .before .if2 .taken))) (first-denied _ (outermost (subst (Reads _ _ _ _ _ _ _) (c .before .r2 .given .1) (c .before .before .before .before .before .expression .ensures)) .so))))))
 
--- src/operands.rt:349:17
 same-length-3 : tie.Need-same-length-3
 same-length-3 c = search needs
 
--- src/operands.rt:349:17
 returns-3 : tie.Need-returns-3
-returns-3 c = ?
+unfolding memory _>>_
+returns-3 c = hands (comes _ _ (comes _ _ (comes _ _ (starts _ _ _ _ _ _) is-ahead) (subst (Passes _ _ _ _) (c .before .before .before .before .before .before .before .before .before .before .before .before .before .before .q .given .1) (c .before .before .before .before .before .before .before .before .before .before .before .before .before .before .before .before .next .ensures) .so)) is-kind) (rw (no-word _ _ _ (ne-eqb _ _ (c .before .before .before .before .before .before .before .before .before .before .before .before .if1 .left)), number-is _ _ _ (ne-eqb _ _ (c .before .before .before .before .before .before .before .before .before .before .before .before .if1 .left)) (eq-eqb _ _ (c .before .before .before .before .before .before .before .before .before .before .before .if2 .taken))) (hands (called _ _ (starts _ _ _ _ _ _) (outermost (subst (Reads _ _ _ _ _ _ _) (c .before .before .before .before .before .end .given .1) (c .before .before .before .before .before .before .before .before .before .expression .ensures)) .so)) (c .before .before .close .ensures)))
 
--- src/operands.rt:356:29
 refuse-here-requires : tie.Need-refuse-here-requires
 refuse-here-requires c κs = search needs
 
--- src/operands.rt:336:1
 returns-4 : tie.Need-returns-4
-returns-4 c = ?
+unfolding memory _>>_
+returns-4 c = reads-refused (then-denied _ is-ahead (first-denied _ (subst (Passes _ _ _ _) (c .before .r .given .1) (c .before .before .before .next .ensures) .so)))
 
--- src/operands.rt:336:1
 returns-5 : tie.Need-returns-5
-returns-5 c = ?
+unfolding memory _>>_
+returns-5 c = reads-refused (then-denied _ is-ahead (then-denied _ (subst (Passes _ _ _ _) (c .before .before .before .before .q .given .1) (c .before .before .before .before .before .before .next .ensures) .so) (then-denied _ is-kind (rw (no-word _ _ _ (ne-eqb _ _ (c .before .before .if1 .left)), no-number _ _ _ (ne-eqb _ _ (c .before .if2 .left))) (refuses-here 24 (c .refuse-here .ensures))))))
 
 pub memory-spec : {M : Type 1} → statement M
 memory-spec =

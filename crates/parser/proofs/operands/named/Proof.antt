@@ -1,3 +1,9 @@
+-- The name is passed, and its record written.
+-- Assumes nothing.
+use mathlib.Core.Path.{_≡_, refl, sym, ap, subst, _∙_}
+use Rattle.rules.specs.Reader.{_>>_}
+use Rattle.parser.specs.Views.{line, lineOf, Passes, Reads}
+use Rattle.parser.proofs.Chain.{starts, ends, comes, reads-done, reads-refused, writes, first-denied}
 use borrow.Author.Needs.{needs}
 use Rattle.parser.proofs.operands.named.Statement.{statement}
 use Rattle.parser.proofs.operands.named.Tie as tie
@@ -6,33 +12,28 @@ use Rattle.parser.proofs.operands.named.Lts as lts
 use Rattle.parser.proofs.state.next.Reads as next-reads
 use Rattle.records.proofs.put_record.Reads as put-record-reads
 
--- src/operands.rt:366:11
 next-requires : tie.Need-next-requires
 next-requires c κs = search needs
 
--- src/operands.rt:367:23
 enum-known-r : tie.Need-enum-known-r
 enum-known-r c = search needs
 
--- src/operands.rt:368:21
 enum-known-q : tie.Need-enum-known-q
 enum-known-q c = search needs
 
--- src/operands.rt:369:17
 put-record-requires : tie.Need-put-record-requires
 put-record-requires c κs = search needs
 
--- src/operands.rt:362:1
 returns : tie.Need-returns
-returns c = ?
+unfolding _>>_
+returns c = record { so = λ o e. reads-refused (first-denied _ (subst (Passes _ _ _ _) (c .before .r .given .1) (c .before .before .before .next .ensures) .so)) }
 
--- src/operands.rt:362:1
 same-length : tie.Need-same-length
 same-length c = search needs
 
--- src/operands.rt:362:1
 returns-2 : tie.Need-returns-2
-returns-2 c = ?
+unfolding _>>_
+returns-2 c = record { so = λ o e. reads-done (ends (comes _ _ (starts _ _ _ _ _ _) (subst (Passes _ _ _ _) (c .before .before .before .before .before .q .given .1) (c .before .before .before .before .before .before .before .next .ensures) .so)) (writes o (rw e (c .before .before .put-record .ensures)))) }
 
 pub named-spec : {M : Type 1} → statement M
 named-spec =

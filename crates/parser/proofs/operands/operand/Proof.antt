@@ -1,3 +1,26 @@
+-- Size words are passed one by one; the invariant: what the rules' operand has still to read is what they read behind the last of them, with
+-- as many size words to come as tokens are left. Each is one token less.
+-- Assumes nothing.
+use Prim.Native.Nat.{ℕ, suc, _+_, _≤_}
+use mathlib.Core.Path.{_≡_, refl, sym, ap, subst, _∙_}
+use native.Mathlib.Nat.{le-refl}
+use native.Mathlib.Numerals.{add-one}
+use native.Mathlib.Omega.{arith}
+use borrow.Author.Needs.{needs}
+use denote.Ref.{now}
+use lib.ListN.{length}
+use Rattle.names.specs.Names.{registers, segments, sizes}
+use Rattle.rules.specs.Reader.{_>>_}
+use Rattle.rules.specs.Records.{OR, OS, encode}
+use Rattle.lexer.specs.Text.{bytes}
+use Rattle.rules.specs.Operands.{operandSized}
+use Rattle.rules.specs.Operands.{operand as rules-operand}
+use Rattle.rules.proofs.Shape.{size-small}
+use Rattle.parser.specs.Views.{line, lineOf, Passes, Reads}
+use Rattle.parser.proofs.Chain.{Sofar, starts, comes, denied, hands, reads-refused, is-ahead, is-left, first-denied}
+use Rattle.parser.proofs.Flat.{plain}
+use Rattle.parser.proofs.Steps.{one-less}
+use Rattle.parser.proofs.OperandLaws.{mark-ahead, other-ahead, within, is-register, is-segment, is-size, is-other, turns, positive}
 use Rattle.parser.proofs.operands.operand.Statement.{statement}
 use Rattle.parser.proofs.operands.operand.Tie as tie
 use Rattle.parser.proofs.operands.operand.Reads as reads
@@ -9,114 +32,102 @@ use Rattle.parser.proofs.operands.named.Reads as named-reads
 use Rattle.parser.proofs.state.next.Reads as next-reads
 
 abbrev Inv-loop : tie.InvT-loop
-Inv-loop src out₀ at q₀ size₀ out q size = ?
+Inv-loop src out₀ at q₀ size₀ out q size = 
+    (n : ℕ)
+    × (length (lineOf src q .more) ≤ n)
+    × Sofar line src q₀ rules-operand at out₀ q (operandSized (suc n) size) at out
 
 abbrev μ-loop : tie.MeasureT-loop
-μ-loop src out₀ at q₀ size₀ out q size = ?
+μ-loop src out₀ at q₀ size₀ out q size = length (lineOf src q .more)
 
--- src/operands.rt:390:5
 loop-holds : tie.Need-loop-holds Inv-loop μ-loop
-loop-holds c = ?
+unfolding rules-operand
+loop-holds c = (length (lineOf (now (c .before .before .args .src)) (c .before .before .args .p) .more), le-refl _, comes _ _ (starts _ _ _ _ _ _) is-left)
 
--- src/operands.rt:392:13
 memory-requires : tie.Need-memory-requires Inv-loop μ-loop
-memory-requires c κs = ?
+memory-requires c κs = (c .before .before .before .before .before .before .pre, rw (c .before .if1 .taken), rw (c .before .if1 .taken))
 
--- src/operands.rt:392:13
 same-length : tie.Need-same-length Inv-loop μ-loop
-same-length c = ?
+same-length c = search needs
 
--- src/operands.rt:392:13
 returns : tie.Need-returns Inv-loop μ-loop
-returns c = ?
+unfolding operandSized
+returns c = hands (comes _ _ (c .before .before .before .before .before .before .loop .inv .2) is-ahead) (rw (mark-ahead (now (c .before .before .before .before .before .before .before .before .before .args .src)) (c .before .before .before .before .before .before .loop .q) "[" (plain "[" refl) (c .before .before .before .before .if1 .taken)) (c .before .before .memory .ensures))
 
--- src/operands.rt:394:15
 name-ahead-requires : tie.Need-name-ahead-requires Inv-loop μ-loop
-name-ahead-requires c κs = ?
+name-ahead-requires c κs = search needs
 
--- src/operands.rt:395:28
 enum-known-r : tie.Need-enum-known-r Inv-loop μ-loop
-enum-known-r c = ?
+enum-known-r c = search needs
 
--- src/operands.rt:396:17
 named-requires : tie.Need-named-requires Inv-loop μ-loop
-named-requires c κs = ?
+named-requires c κs = (c .before .before .before .before .before .before .before .before .before .before .pre, (within _ _ _ registers (is-register _ (c .before .before .before .before .name-ahead .ensures) (c .before .before .r .given .1))) .0, (within _ _ _ registers (is-register _ (c .before .before .before .before .name-ahead .ensures) (c .before .before .r .given .1))) .1)
 
--- src/operands.rt:396:17
 same-length-2 : tie.Need-same-length-2 Inv-loop μ-loop
-same-length-2 c = ?
+same-length-2 c = search needs
 
--- src/operands.rt:396:17
 returns-2 : tie.Need-returns-2 Inv-loop μ-loop
-returns-2 c = ?
+unfolding operandSized _>>_ encode bytes
+returns-2 c = hands (comes _ _ (c .before .before .before .before .before .before .before .before .before .before .loop .inv .2) is-ahead) (rw (other-ahead (now (c .before .before .before .before .before .before .before .before .before .before .before .before .before .args .src)) (c .before .before .before .before .before .before .before .before .before .before .loop .q) "[" (plain "[" refl) (c .before .before .before .before .before .before .before .before .if1 .left), is-register _ (c .before .before .before .before .before .before .before .name-ahead .ensures) (c .before .before .before .before .before .r .given .1)) (c .before .before .named .ensures .so (OR _ _ _) refl))
 
--- src/operands.rt:398:27
 enum-known-s : tie.Need-enum-known-s Inv-loop μ-loop
-enum-known-s c = ?
+enum-known-s c = search needs
 
--- src/operands.rt:399:17
 named-requires-2 : tie.Need-named-requires-2 Inv-loop μ-loop
-named-requires-2 c κs = ?
+named-requires-2 c κs = (c .before .before .before .before .before .before .before .before .before .before .pre, (within _ _ _ segments ((is-segment _ (c .before .before .before .before .name-ahead .ensures) (c .before .before .s .given .1)) .1)) .0, (within _ _ _ segments ((is-segment _ (c .before .before .before .before .name-ahead .ensures) (c .before .before .s .given .1)) .1)) .1)
 
--- src/operands.rt:399:17
 same-length-3 : tie.Need-same-length-3 Inv-loop μ-loop
-same-length-3 c = ?
+same-length-3 c = search needs
 
--- src/operands.rt:399:17
 returns-3 : tie.Need-returns-3 Inv-loop μ-loop
-returns-3 c = ?
+unfolding operandSized _>>_ encode bytes
+returns-3 c = hands (comes _ _ (c .before .before .before .before .before .before .before .before .before .before .loop .inv .2) is-ahead) (rw (other-ahead (now (c .before .before .before .before .before .before .before .before .before .before .before .before .before .args .src)) (c .before .before .before .before .before .before .before .before .before .before .loop .q) "[" (plain "[" refl) (c .before .before .before .before .before .before .before .before .if1 .left), (is-segment _ (c .before .before .before .before .before .before .before .name-ahead .ensures) (c .before .before .before .before .before .s .given .1)) .0, (is-segment _ (c .before .before .before .before .before .before .before .name-ahead .ensures) (c .before .before .before .before .before .s .given .1)) .1) (c .before .before .named2 .ensures .so (OS _ _ _) refl))
 
--- src/operands.rt:402:46
 enum-told : tie.Need-enum-told Inv-loop μ-loop
-enum-told c = ?
+enum-told c = search needs
 
--- src/operands.rt:402:17
 immediate-or-far-requires : tie.Need-immediate-or-far-requires Inv-loop μ-loop
-immediate-or-far-requires c κs = ?
+immediate-or-far-requires c κs = c .before .before .before .before .before .before .before .before .before .pre
 
--- src/operands.rt:402:17
 same-length-4 : tie.Need-same-length-4 Inv-loop μ-loop
-same-length-4 c = ?
+same-length-4 c = search needs
 
--- src/operands.rt:402:17
 returns-4 : tie.Need-returns-4 Inv-loop μ-loop
-returns-4 c = ?
+unfolding operandSized
+returns-4 c = hands (comes _ _ (c .before .before .before .before .before .before .before .before .before .loop .inv .2) is-ahead) (rw (other-ahead (now (c .before .before .before .before .before .before .before .before .before .before .before .before .args .src)) (c .before .before .before .before .before .before .before .before .before .loop .q) "[" (plain "[" refl) (c .before .before .before .before .before .before .before .if1 .left), (is-other _ (c .before .before .before .before .before .before .name-ahead .ensures) (c .before .before .before .before .enum-told .given .1)) .0, (is-other _ (c .before .before .before .before .before .before .name-ahead .ensures) (c .before .before .before .before .enum-told .given .1)) .1, (is-other _ (c .before .before .before .before .before .before .name-ahead .ensures) (c .before .before .before .before .enum-told .given .1)) .2) (c .before .before .immediate-or-far .ensures))
 
--- src/operands.rt:404:24
 enum-known-z : tie.Need-enum-known-z Inv-loop μ-loop
-enum-known-z c = ?
+enum-known-z c = search needs
 
--- src/operands.rt:404:36
 next-requires : tie.Need-next-requires Inv-loop μ-loop
-next-requires c κs = ?
+next-requires c κs = (c .before .before .before .before .before .before .before .before .before .pre, (within _ _ _ sizes ((is-size _ (c .before .before .before .name-ahead .ensures) (c .before .z .given .1)) .2)) .0, (within _ _ _ sizes ((is-size _ (c .before .before .before .name-ahead .ensures) (c .before .z .given .1)) .2)) .1)
 
--- src/operands.rt:405:31
 enum-known-r-2 : tie.Need-enum-known-r-2 Inv-loop μ-loop
-enum-known-r-2 c = ?
+enum-known-r-2 c = search needs
 
--- src/operands.rt:406:21
 same-length-5 : tie.Need-same-length-5 Inv-loop μ-loop
-same-length-5 c = ?
+same-length-5 c = search needs
 
--- src/operands.rt:406:21
 returns-5 : tie.Need-returns-5 Inv-loop μ-loop
-returns-5 c = ?
+unfolding operandSized _>>_
+returns-5 c = reads-refused (denied (comes _ _ (c .before .before .before .before .before .before .before .before .before .before .loop .inv .2) is-ahead) (rw (other-ahead (now (c .before .before .before .before .before .before .before .before .before .before .before .before .before .args .src)) (c .before .before .before .before .before .before .before .before .before .before .loop .q) "[" (plain "[" refl) (c .before .before .before .before .before .before .before .before .if1 .left), (is-size _ (c .before .before .before .before .before .before .before .name-ahead .ensures) (c .before .before .before .before .before .z .given .1)) .0, (is-size _ (c .before .before .before .before .before .before .before .name-ahead .ensures) (c .before .before .before .before .before .z .given .1)) .1, (is-size _ (c .before .before .before .before .before .before .before .name-ahead .ensures) (c .before .before .before .before .before .z .given .1)) .2) (first-denied _ (subst (Passes _ _ _ _) (c .before .r2 .given .1) (c .before .before .before .next .ensures) .so))))
 
--- src/operands.rt:408:29
 enum-known-after : tie.Need-enum-known-after Inv-loop μ-loop
-enum-known-after c = ?
+enum-known-after c = search needs
 
--- src/operands.rt:410:28
 add-size : tie.Need-add-size Inv-loop μ-loop
-add-size c = ?
+add-size c = omega (arith, size-small _ _ ((is-size _ (c .before .before .before .before .before .before .before .name-ahead .ensures) (c .before .before .before .before .before .z .given .1)) .2))
 
--- src/operands.rt:390:5
 loop-less : tie.Need-loop-less Inv-loop μ-loop
-loop-less c = ?
+loop-less c = omega (arith, one-less _ _ _ ((within _ _ _ sizes ((is-size _ (c .before .before .before .before .before .before .before .name-ahead .ensures) (c .before .before .before .before .before .z .given .1)) .2)) .0) ((within _ _ _ sizes ((is-size _ (c .before .before .before .before .before .before .before .name-ahead .ensures) (c .before .before .before .before .before .z .given .1)) .2)) .1) (subst (Passes _ _ _ _) (c .before .after .given .1) (c .before .before .before .next .ensures)))
 
--- src/operands.rt:390:5
 loop-again : tie.Need-loop-again Inv-loop μ-loop
-loop-again c = ?
+loop-again c = 
+    let less = one-less _ _ _ ((within _ _ _ sizes ((is-size _ (c .before .before .before .before .before .before .before .name-ahead .ensures) (c .before .before .before .before .before .z .given .1)) .2)) .0) ((within _ _ _ sizes ((is-size _ (c .before .before .before .before .before .before .before .name-ahead .ensures) (c .before .before .before .before .before .z .given .1)) .2)) .1) (subst (Passes _ _ _ _) (c .before .after .given .1) (c .before .before .before .next .ensures)) in
+    let fuel = positive (c .before .before .before .before .before .before .before .before .before .before .loop .inv .0) (omega (arith, c .before .before .before .before .before .before .before .before .before .before .loop .inv .1)) in
+    (fuel .0,
+     omega (arith, c .before .before .before .before .before .before .before .before .before .before .loop .inv .1, fuel .1),
+     turns _ (c .before .before .before .before .before .before .before .before .before .before .loop .inv .2) (other-ahead (now (c .before .before .before .before .before .before .before .before .before .before .before .before .before .args .src)) (c .before .before .before .before .before .before .before .before .before .before .loop .q) "[" (plain "[" refl) (c .before .before .before .before .before .before .before .before .if1 .left)) ((is-size _ (c .before .before .before .before .before .before .before .name-ahead .ensures) (c .before .before .before .before .before .z .given .1)) .0) ((is-size _ (c .before .before .before .before .before .before .before .name-ahead .ensures) (c .before .before .before .before .before .z .given .1)) .1) ((is-size _ (c .before .before .before .before .before .before .before .name-ahead .ensures) (c .before .before .before .before .before .z .given .1)) .2) (subst (Passes _ _ _ _) (c .before .after .given .1) (c .before .before .before .next .ensures) .so) (fuel .1) (add-one _))
 
 pub operand-spec : {M : Type 1} → statement M
 operand-spec =

@@ -1,3 +1,13 @@
+-- The plus is passed. Where no register stands behind it, the rules go back as well, to the plus.
+-- Assumes nothing.
+use mathlib.Core.Path.{_≡_, refl, sym, ap, subst, _∙_}
+use mathlib.Core.Option.{none, some}
+use Rattle.names.specs.Names.{registers}
+use Rattle.rules.specs.Reader.{encoding, _>>_}
+use Rattle.rules.specs.Operands.{plusIndex}
+use Rattle.parser.specs.Views.{line, lineOf, Passes, Reads}
+use Rattle.parser.proofs.Chain.{refuses, returns as gives, is-ahead, then-comes, then-denied, first-denied, attempt-back, attempt-denied}
+use Rattle.parser.proofs.OperandLaws.{within, is-register, no-register, then-finds, attempt-looks}
 use borrow.Author.Needs.{needs}
 use Rattle.parser.proofs.operands.plus_index.Statement.{statement}
 use Rattle.parser.proofs.operands.plus_index.Tie as tie
@@ -9,53 +19,45 @@ use Rattle.parser.proofs.operands.is_index.Reads as is-index-reads
 use Rattle.parser.proofs.operands.name_ahead.Reads as name-ahead-reads
 use Rattle.parser.proofs.state.next.Reads as next-reads
 
--- src/operands.rt:158:11
 next-requires : tie.Need-next-requires
 next-requires c κs = search needs
 
--- src/operands.rt:159:23
 enum-known-e : tie.Need-enum-known-e
 enum-known-e c = search needs
 
--- src/operands.rt:160:21
 enum-known-q : tie.Need-enum-known-q
 enum-known-q c = search needs
 
--- src/operands.rt:161:37
 name-ahead-requires : tie.Need-name-ahead-requires
 name-ahead-requires c κs = search needs
 
--- src/operands.rt:161:32
 enum-known-s : tie.Need-enum-known-s
 enum-known-s c = search needs
 
--- src/operands.rt:162:41
 alone-requires : tie.Need-alone-requires
 alone-requires c κs = search needs
 
--- src/operands.rt:162:17
 returns : tie.Need-returns
-returns c = ?
+unfolding plusIndex _>>_
+returns c = record { so = rw (c .alone .ensures) (attempt-back _ {q = c .before .before .before .before .q .given .0 .0} (then-comes _ (subst (Passes _ _ _ _) (c .before .before .before .before .q .given .1) (c .before .before .before .before .before .before .next .ensures) .so) (then-comes _ is-ahead (rw (no-register _ (c .before .before .name-ahead .ensures) (c .before .match2 .keys2)) (gives none))))) }
 
--- src/operands.rt:164:16
 is-index-requires : tie.Need-is-index-requires
 is-index-requires c κs = search needs
 
--- src/operands.rt:165:17
 index-requires : tie.Need-index-requires
-index-requires c κs = ?
+index-requires c κs = (c .before .before .before .before .before .before .before .before .before .before .before .pre .0, (within _ _ _ registers (is-register _ (c .before .before .before .before .before .name-ahead .ensures) (c .before .before .before .s .given .1))) .0, (within _ _ _ registers (is-register _ (c .before .before .before .before .before .name-ahead .ensures) (c .before .before .before .s .given .1))) .1)
 
--- src/operands.rt:165:17
 returns-2 : tie.Need-returns-2
-returns-2 c = ?
+unfolding plusIndex _>>_
+returns-2 c = attempt-looks _ (then-finds _ (subst (Passes _ _ _ _) (c .before .before .before .before .before .before .before .before .q .given .1) (c .before .before .before .before .before .before .before .before .before .before .next .ensures) .so) (then-finds _ is-ahead (rw (is-register _ (c .before .before .before .before .before .before .name-ahead .ensures) (c .before .before .before .before .s .given .1), sym (c .before .before .is-index .ensures) ∙ c .before .if1 .taken) (c .index .ensures))))
 
--- src/operands.rt:154:1
 returns-3 : tie.Need-returns-3
-returns-3 c = ?
+unfolding plusIndex _>>_
+returns-3 c = record { so = attempt-denied _ (first-denied _ (subst (Passes _ _ _ _) (c .before .e .given .1) (c .before .before .before .next .ensures) .so)) }
 
--- src/operands.rt:154:1
 returns-4 : tie.Need-returns-4
-returns-4 c = ?
+unfolding plusIndex _>>_
+returns-4 c = record { so = attempt-denied _ (then-denied _ (subst (Passes _ _ _ _) (c .before .before .before .before .before .before .before .q .given .1) (c .before .before .before .before .before .before .before .before .before .next .ensures) .so) (then-denied _ is-ahead (rw (is-register _ (c .before .before .before .before .before .name-ahead .ensures) (c .before .before .before .s .given .1), sym (c .before .is-index .ensures) ∙ c .if1 .left) (refuses (encoding _ _ _ _) refl)))) }
 
 pub plus-index-spec : {M : Type 1} → statement M
 plus-index-spec =

@@ -1,3 +1,16 @@
+-- A segment ahead is passed, and its colon; no register is a segment.
+-- Assumes nothing.
+use mathlib.Core.Path.{_≡_, refl, sym, ap, subst, _∙_}
+use native.Mathlib.Omega.{arith}
+use native.Mathlib.Numerals.{add-one}
+use Rattle.names.specs.Names.{segments}
+use Rattle.rules.specs.Reader.{_>>_}
+use Rattle.rules.specs.Operands.{override}
+use Rattle.rules.proofs.Shape.{segment-small}
+use Rattle.parser.specs.Views.{line, lineOf, Passes, Reads}
+use Rattle.parser.proofs.Chain.{returns as gives, is-kind, then-comes, then-denied, first-denied}
+use Rattle.parser.proofs.Flat.{plain}
+use Rattle.parser.proofs.OperandLaws.{within, is-segment, no-segment}
 use borrow.Author.Needs.{needs}
 use Rattle.parser.proofs.operands.segment_override.Statement.{statement}
 use Rattle.parser.proofs.operands.segment_override.Tie as tie
@@ -7,57 +20,48 @@ use Rattle.parser.proofs.operands.name_ahead.Reads as name-ahead-reads
 use Rattle.parser.proofs.state.expect.Reads as expect-reads
 use Rattle.parser.proofs.state.next.Reads as next-reads
 
--- src/operands.rt:304:28
 name-ahead-requires : tie.Need-name-ahead-requires
 name-ahead-requires c κs = search needs
 
--- src/operands.rt:304:23
 enum-known-s : tie.Need-enum-known-s
 enum-known-s c = search needs
 
--- src/operands.rt:305:9
 returns : tie.Need-returns
-returns c = ?
+unfolding override _>>_
+returns c = record { so = then-comes _ is-kind (rw (no-segment _ (c .before .name-ahead .ensures) (c .match .keys2)) (gives 0)) }
 
--- src/operands.rt:307:11
 next-requires : tie.Need-next-requires
-next-requires c κs = ?
+next-requires c κs = (c .before .before .before .before .before .pre, (within _ _ _ segments (is-segment _ (c .before .before .before .name-ahead .ensures) (c .before .s .given .1) .1)) .0, (within _ _ _ segments (is-segment _ (c .before .before .before .name-ahead .ensures) (c .before .s .given .1) .1)) .1)
 
--- src/operands.rt:308:23
 enum-known-r : tie.Need-enum-known-r
 enum-known-r c = search needs
 
--- src/operands.rt:309:21
 enum-known-q : tie.Need-enum-known-q
 enum-known-q c = search needs
 
--- src/operands.rt:309:33
 expect-requires : tie.Need-expect-requires
 expect-requires c κs = search needs
 
--- src/operands.rt:310:27
 enum-known-r-2 : tie.Need-enum-known-r-2
 enum-known-r-2 c = search needs
 
--- src/operands.rt:311:25
 enum-known-after : tie.Need-enum-known-after
 enum-known-after c = search needs
 
--- src/operands.rt:311:56
 add-t13 : tie.Need-add-t13
-add-t13 c = ?
+add-t13 c = omega (arith, segment-small _ _ (is-segment _ (c .before .before .before .before .before .before .before .before .before .before .before .name-ahead .ensures) (c .before .before .before .before .before .before .before .before .before .s .given .1) .1))
 
--- src/operands.rt:300:1
 returns-2 : tie.Need-returns-2
-returns-2 c = ?
+unfolding override _>>_
+returns-2 c = record { so = then-denied _ is-kind (rw (is-segment _ (c .before .before .before .before .before .before .before .name-ahead .ensures) (c .before .before .before .before .before .s .given .1) .1) (first-denied _ (subst (Passes _ _ _ _) (c .before .r .given .1) (c .before .before .before .next .ensures) .so))) }
 
--- src/operands.rt:300:1
 returns-3 : tie.Need-returns-3
-returns-3 c = ?
+unfolding override _>>_
+returns-3 c = record { so = then-denied _ is-kind (rw (is-segment _ (c .before .before .before .before .before .before .before .before .before .before .before .name-ahead .ensures) (c .before .before .before .before .before .before .before .before .before .s .given .1) .1) (then-denied _ (subst (Passes _ _ _ _) (c .before .before .before .before .before .q .given .1) (c .before .before .before .before .before .before .before .next .ensures) .so) (first-denied _ (subst (Passes _ _ _ _) (c .before .r2 .given .1) (c .before .before .before .expect .ensures .so ":" refl (plain ":" refl)) .so)))) }
 
--- src/operands.rt:300:1
 returns-4 : tie.Need-returns-4
-returns-4 c = ?
+unfolding override _>>_
+returns-4 c = record { so = then-comes _ is-kind (rw (is-segment _ (c .before .before .before .before .before .before .before .before .before .before .before .name-ahead .ensures) (c .before .before .before .before .before .before .before .before .before .s .given .1) .1) (then-comes _ (subst (Passes _ _ _ _) (c .before .before .before .before .before .q .given .1) (c .before .before .before .before .before .before .before .next .ensures) .so) (then-comes _ (subst (Passes _ _ _ _) (c .before .after .given .1) (c .before .before .before .expect .ensures .so ":" refl (plain ":" refl)) .so) (rw add-one (gives _))))) }
 
 pub segment-override-spec : {M : Type 1} → statement M
 segment-override-spec =
