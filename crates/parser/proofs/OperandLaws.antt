@@ -216,7 +216,7 @@ hands-operands {s} {p} {q} {m} {m₁} {i} {w} {l} {l₁} {l₂} {r} so on = reco
     go (operandsRead.Done q₂ w₂ o) h = ends so h
     go (operandsRead.Refused c) h = denied so h
 
--- The token ahead is a mark, or not.
+-- The token ahead is a mark, or not; it ends the line, or not.
 module _ (s : List ℕ) (p : Parser) (a : Char) (h : Plain a) where
   pub mark-ahead : p .kind ≡ code a → isMark a (hereOf s p .kind) ≡ true
   mark-ahead e = mark-is (p .kind) (p .value) (textOf s (p .«token_start») (p .pos)) a h ∙ eq-eqb _ _ e
@@ -224,12 +224,19 @@ module _ (s : List ℕ) (p : Parser) (a : Char) (h : Plain a) where
   pub other-ahead : (p .kind ≡ code a → ⊥) → isMark a (hereOf s p .kind) ≡ false
   other-ahead e = mark-is (p .kind) (p .value) (textOf s (p .«token_start») (p .pos)) a h ∙ ne-eqb _ _ e
 
+pub end-ahead : (s : List ℕ) (p : Parser) {a b : Bool} → a ≡ (eqb (p .kind) 10 || eqb (p .kind) 0) → a ≡ b → isLineEnd (hereOf s p .kind) ≡ b
+end-ahead s p e f = line-end-is (p .kind) (p .value) (textOf s (p .«token_start») (p .pos)) ∙ sym e ∙ f
+
 -- One more size word is passed: z, which the code counts from 1.
-pub turns : {s : List ℕ} {p q q₂ : Parser} {m : Reader Line (Unit {0})} {i w : ℕ} {l l₁ : List ℕ} {z y n k : ℕ} (size : ℕ) → Sofar line s p m i l q (operandSized (suc n) size) w l₁
-    → isMark "[" (hereOf s q .kind) ≡ false → nameIn registers (hereOf s q .kind) ≡ none → nameIn segments (hereOf s q .kind) ≡ none → nameIn sizes (hereOf s q .kind) ≡ some z
-    → Comes line s q next q₂ tt → n ≡ suc k → y ≡ suc z → Sofar line s p m i l q₂ (operandSized (suc k) y) w l₁
-unfolding operandSized _>>_
-turns {z = z} {n = n} size so a b c d h e f = rw (f, ← e) (comes next (λ _. operandSized n (suc z)) (becomes (comes ahead _ so is-ahead) (rw (a, b, c, d))) h)
+module _ {s : List ℕ} {p q q₂ : Parser} {m : Reader Line (Unit {0})} {i w : ℕ} {l l₁ : List ℕ} {z : ℕ} (n size : ℕ) (so : Sofar line s p m i l q (operandSized (suc n) size) w l₁)
+    (a : isMark "[" (hereOf s q .kind) ≡ false) (b : nameIn registers (hereOf s q .kind) ≡ none) (c : nameIn segments (hereOf s q .kind) ≡ none) (d : nameIn sizes (hereOf s q .kind) ≡ some z)
+    (h : Comes line s q next q₂ tt) where
+  past-size : Sofar line s p m i l q₂ (operandSized n (suc z)) w l₁
+  unfolding operandSized _>>_
+  past-size = comes next (λ _. operandSized n (suc z)) (becomes (comes ahead _ so is-ahead) (rw (a, b, c, d))) h
+
+  pub turns : {k y : ℕ} → n ≡ suc k → y ≡ suc z → Sofar line s p m i l q₂ (operandSized (suc k) y) w l₁
+  turns e f = rw (f, ← e) past-size
 
 pub positive : (n : ℕ) → 1 ≤ n → (m : ℕ) × (n ≡ suc m)
 positive zero h = absurd (omega arith)

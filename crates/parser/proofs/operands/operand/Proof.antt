@@ -127,7 +127,7 @@ loop-again c =
     let fuel = positive (c .before .before .before .before .before .before .before .before .before .before .loop .inv .0) (omega (arith, c .before .before .before .before .before .before .before .before .before .before .loop .inv .1)) in
     (fuel .0,
      omega (arith, c .before .before .before .before .before .before .before .before .before .before .loop .inv .1, fuel .1),
-     turns _ (c .before .before .before .before .before .before .before .before .before .before .loop .inv .2) (other-ahead (now (c .before .before .before .before .before .before .before .before .before .before .before .before .before .args .src)) (c .before .before .before .before .before .before .before .before .before .before .loop .q) "[" (plain "[" refl) (c .before .before .before .before .before .before .before .before .if1 .left)) ((is-size _ (c .before .before .before .before .before .before .before .name-ahead .ensures) (c .before .before .before .before .before .z .given .1)) .0) ((is-size _ (c .before .before .before .before .before .before .before .name-ahead .ensures) (c .before .before .before .before .before .z .given .1)) .1) ((is-size _ (c .before .before .before .before .before .before .before .name-ahead .ensures) (c .before .before .before .before .before .z .given .1)) .2) (subst (Passes _ _ _ _) (c .before .after .given .1) (c .before .before .before .next .ensures) .so) (fuel .1) (add-one _))
+     turns _ _ (c .before .before .before .before .before .before .before .before .before .before .loop .inv .2) (other-ahead (now (c .before .before .before .before .before .before .before .before .before .before .before .before .before .args .src)) (c .before .before .before .before .before .before .before .before .before .before .loop .q) "[" (plain "[" refl) (c .before .before .before .before .before .before .before .before .if1 .left)) ((is-size _ (c .before .before .before .before .before .before .before .name-ahead .ensures) (c .before .before .before .before .before .z .given .1)) .0) ((is-size _ (c .before .before .before .before .before .before .before .name-ahead .ensures) (c .before .before .before .before .before .z .given .1)) .1) ((is-size _ (c .before .before .before .before .before .before .before .name-ahead .ensures) (c .before .before .before .before .before .z .given .1)) .2) (subst (Passes _ _ _ _) (c .before .after .given .1) (c .before .before .before .next .ensures) .so) (fuel .1) (add-one _))
 
 pub operand-spec : {M : Type 1} → statement M
 operand-spec =

@@ -1,3 +1,9 @@
+-- The comma is passed and the second operand read; the span goes from the first to the last token taken.
+-- Assumes nothing.
+use mathlib.Core.Path.{_≡_, refl, sym, ap, subst, _∙_}
+use Rattle.rules.specs.Reader.{_>>_}
+use Rattle.parser.specs.Views.{line, lineOf, Passes, Reads}
+use Rattle.parser.proofs.Chain.{starts, lands, called, comes, returns as gives, is-passed, then-denied, first-denied}
 use borrow.Author.Needs.{needs}
 use Rattle.parser.proofs.operands.source.Statement.{statement}
 use Rattle.parser.proofs.operands.source.Tie as tie
@@ -6,49 +12,41 @@ use Rattle.parser.proofs.operands.source.Lts as lts
 use Rattle.parser.proofs.operands.operand.Reads as operand-reads
 use Rattle.parser.proofs.state.next.Reads as next-reads
 
--- src/operands.rt:463:11
 next-requires : tie.Need-next-requires
 next-requires c κs = search needs
 
--- src/operands.rt:464:23
 enum-known-r : tie.Need-enum-known-r
 enum-known-r c = search needs
 
--- src/operands.rt:465:21
 enum-known-q : tie.Need-enum-known-q
 enum-known-q c = search needs
 
--- src/operands.rt:465:33
 operand-requires : tie.Need-operand-requires
 operand-requires c κs = search needs
 
--- src/operands.rt:466:29
 enum-known-r-2 : tie.Need-enum-known-r-2
 enum-known-r-2 c = search needs
 
--- src/operands.rt:467:26
 enum-known-after : tie.Need-enum-known-after
 enum-known-after c = search needs
 
--- src/operands.rt:459:1
 returns : tie.Need-returns
-returns c = ?
+unfolding _>>_
+returns c = record { so = first-denied _ (subst (Passes _ _ _ _) (c .before .r .given .1) (c .before .before .before .next .ensures) .so) }
 
--- src/operands.rt:459:1
 same-length : tie.Need-same-length
 same-length c = search needs
 
--- src/operands.rt:459:1
 returns-2 : tie.Need-returns-2
-returns-2 c = ?
+unfolding _>>_
+returns-2 c = record { so = then-denied _ (subst (Passes _ _ _ _) (c .before .before .before .before .before .before .before .before .q .given .1) (c .before .before .before .before .before .before .before .before .before .before .next .ensures) .so) (first-denied _ (subst (Reads _ _ _ _ _ _ _) (c .before .r2 .given .1) (c .before .before .before .before .before .operand .ensures) .so)) }
 
--- src/operands.rt:459:1
 same-length-2 : tie.Need-same-length-2
 same-length-2 c = search needs
 
--- src/operands.rt:459:1
 returns-3 : tie.Need-returns-3
-returns-3 c = ?
+unfolding _>>_
+returns-3 c = record { so = lands (comes _ _ (called _ _ (comes _ _ (starts _ _ _ _ _ _) (subst (Passes _ _ _ _) (c .before .before .before .before .before .before .before .before .q .given .1) (c .before .before .before .before .before .before .before .before .before .before .next .ensures) .so)) (subst (Reads _ _ _ _ _ _ _) (c .before .after .given .1) (c .before .before .before .before .before .operand .ensures) .so)) is-passed) (gives _) }
 
 pub source-spec : {M : Type 1} → statement M
 source-spec =
