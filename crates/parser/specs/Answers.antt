@@ -6,7 +6,7 @@ use mathlib.Core.Option.{Option, none, some}
 use Rattle.rules.specs.Lexemes.{Kind, nameIn}
 use Rattle.names.specs.Names.{registers, segments, sizes, nameFrom}
 use Rattle.names.specs.declared.Name.{Name}
-use Rattle.rules.specs.Records.{Record, fields, encode}
+use Rattle.rules.specs.Records.{Record, encode}
 use Rattle.rules.specs.Reader.{Reader, Line, write, next, _>>_}
 use Rattle.rules.specs.Operands.{Operands}
 use Rattle.parser.specs.declared.state.Parser.{Parser}

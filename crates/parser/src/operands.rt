@@ -11,7 +11,6 @@ ghost use Rattle.rules.specs.Operands as rules;
 ghost use Rattle.parser.specs.Views.{hereOf, line, Reads};
 ghost use Rattle.parser.specs.Answers.{nameAt, registersOf, Looks, Finds, ReadsRegisters, Displaces, Names, ReadsOperands};
 ghost use Rattle.parser.specs.Parts as parts;
-use names::Name;
 use super::expressions::expression;
 use super::state::Parsed;
 use super::state::Parser;
@@ -20,9 +19,10 @@ use super::state::Step;
 use super::state::expect;
 use super::state::is_line_end;
 use super::state::next;
-use super::state::refused_at;
 use super::state::refuse_here;
+use super::state::refused_at;
 use super::state::text;
+use names::Name;
 
 // The answer of a reader that writes nothing and gives a number.
 pub enum Looked {
@@ -366,15 +366,7 @@ fn named(src: &[u8], out: &mut [u8], at: u32, p: Parser, m: u8, number: u8) -> P
     match next(src, p) {
         Step::Stopped(r) => Parsed::Refused(r),
         Step::Ahead(q) => {
-            let w = records::put_record(
-                out,
-                at,
-                b'O',
-                m,
-                p.token_start,
-                p.pos,
-                number as u32,
-            );
+            let w = records::put_record(out, at, b'O', m, p.token_start, p.pos, number as u32);
             Parsed::Done(q, w)
         }
     }

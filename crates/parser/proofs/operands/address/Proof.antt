@@ -1,7 +1,6 @@
 -- The four parts of an address, one after the other.
 -- Assumes nothing.
-use mathlib.Core.Path.{_≡_, refl, sym, ap, subst, _∙_}
-use Rattle.parser.specs.Views.{line, lineOf, Passes, Reads}
+use mathlib.Core.Path.{subst}
 use Rattle.parser.specs.Answers.{Looks, ReadsRegisters, Displaces}
 use Rattle.parser.proofs.Chain.{starts, called, comes, hands, reads-refused, then-denied, first-denied}
 use borrow.Author.Needs.{needs}

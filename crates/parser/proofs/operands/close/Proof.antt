@@ -1,11 +1,11 @@
 -- The closing bracket is passed; then the registers and the displacement say which record it is, or that it is 32.
 -- Assumes nothing.
-use mathlib.Core.Path.{_≡_, refl, sym, ap, subst, _∙_}
+use mathlib.Core.Path.{refl, subst}
 use borrow.Author.Tests.{eq-eqb, ne-eqb}
 use Rattle.rules.specs.Records.{OD, OX}
 use Rattle.rules.specs.Reader.{at, _>>_}
 use Rattle.rules.specs.Operands.{close}
-use Rattle.parser.specs.Views.{line, lineOf, Passes, Reads}
+use Rattle.parser.specs.Views.{Passes}
 use Rattle.parser.proofs.Chain.{starts, ends, comes, reads-done, reads-refused, writes, refuses, is-passed, then-denied, first-denied}
 use Rattle.parser.proofs.Flat.{plain}
 use borrow.Author.Needs.{needs}

@@ -1,10 +1,10 @@
 -- Nothing before the closing bracket, else an expression.
 -- Assumes nothing.
-use mathlib.Core.Path.{_≡_, refl, sym, ap, subst, _∙_}
+use mathlib.Core.Path.{refl, subst}
 use denote.Ref.{now}
 use Rattle.rules.specs.Reader.{_>>_}
 use Rattle.rules.specs.Operands.{displacement}
-use Rattle.parser.specs.Views.{line, lineOf, Passes, Reads}
+use Rattle.parser.specs.Views.{Reads}
 use Rattle.parser.proofs.Chain.{starts, still, lands, ends, called, comes, returns as gives, is-kind, then-comes, then-denied, first-denied}
 use Rattle.parser.proofs.Flat.{plain}
 use Rattle.parser.proofs.OperandLaws.{mark-ahead, other-ahead, outermost}

@@ -1,11 +1,11 @@
 -- The colon is passed and the second expression read, each as the rules say, and the record is OF.
 -- Assumes nothing.
-use mathlib.Core.Path.{_≡_, refl, sym, ap, subst, _∙_}
+use mathlib.Core.Path.{subst}
 use Rattle.rules.specs.Reader.{_>>_}
 use Rattle.rules.specs.Records.{OF, encode}
 use Rattle.lexer.specs.Text.{bytes}
-use Rattle.parser.specs.Views.{line, lineOf, Passes, Reads}
-use Rattle.parser.proofs.Chain.{starts, ends, called, called-denied, comes, reads-done, reads-refused, writes, is-passed, first-denied, then-denied}
+use Rattle.parser.specs.Views.{Passes, Reads}
+use Rattle.parser.proofs.Chain.{starts, ends, called, comes, reads-done, reads-refused, writes, is-passed, first-denied, then-denied}
 use Rattle.parser.proofs.OperandLaws.{outermost}
 use borrow.Author.Needs.{needs}
 use Rattle.parser.proofs.operands.far.Statement.{statement}

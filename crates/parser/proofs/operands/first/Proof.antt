@@ -1,9 +1,9 @@
 -- The register is passed, and what follows it is read.
 -- Assumes nothing.
-use mathlib.Core.Path.{_≡_, refl, sym, ap, subst, _∙_}
+use mathlib.Core.Path.{subst}
 use mathlib.Core.Option.{some}
 use Rattle.rules.specs.Reader.{_>>_}
-use Rattle.parser.specs.Views.{line, lineOf, Passes, Reads}
+use Rattle.parser.specs.Views.{Passes}
 use Rattle.parser.specs.Answers.{Looks}
 use Rattle.parser.proofs.Chain.{returns as gives, then-comes, then-denied, first-denied}
 use borrow.Author.Needs.{needs}

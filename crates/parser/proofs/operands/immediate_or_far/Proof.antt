@@ -1,12 +1,12 @@
 -- An expression, and by the token behind it the record OI, or what `far` reads.
 -- Assumes nothing.
-use mathlib.Core.Path.{_≡_, refl, sym, ap, subst, _∙_}
+use mathlib.Core.Path.{refl, subst}
 use denote.Ref.{now}
 use Rattle.rules.specs.Reader.{_>>_}
 use Rattle.rules.specs.Records.{OI, encode}
 use Rattle.lexer.specs.Text.{bytes}
 use Rattle.rules.specs.Operands.{immediateOrFar}
-use Rattle.parser.specs.Views.{line, lineOf, Passes, Reads}
+use Rattle.parser.specs.Views.{Reads}
 use Rattle.parser.proofs.Chain.{starts, ends, called, comes, hands, reads-done, reads-refused, writes, is-ahead, is-kind, is-passed, first-denied, then-denied}
 use Rattle.parser.proofs.Flat.{plain}
 use Rattle.parser.proofs.OperandLaws.{mark-ahead, other-ahead, outermost}

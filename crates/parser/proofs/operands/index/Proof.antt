@@ -1,9 +1,9 @@
 -- The second register is passed first; then the first one says whether it is 33.
 -- Assumes nothing.
-use mathlib.Core.Path.{_≡_, refl, sym, ap, subst, _∙_}
+use mathlib.Core.Path.{sym, subst, _∙_}
 use mathlib.Core.Option.{some}
 use Rattle.rules.specs.Reader.{at, _>>_}
-use Rattle.parser.specs.Views.{line, lineOf, Passes, Reads}
+use Rattle.parser.specs.Views.{Passes}
 use Rattle.parser.proofs.Chain.{refuses, returns as gives, is-passed, then-comes, then-denied, first-denied}
 use borrow.Author.Needs.{needs}
 use Rattle.parser.proofs.operands.index.Statement.{statement}

@@ -1,10 +1,10 @@
 -- The bracket is passed; its first token says whether an address, an expression or 24 follows.
 -- Assumes nothing.
-use mathlib.Core.Path.{_≡_, refl, sym, ap, subst, _∙_}
+use mathlib.Core.Path.{subst}
 use borrow.Author.Tests.{eq-eqb, ne-eqb}
 use Rattle.rules.specs.Reader.{_>>_}
 use Rattle.rules.specs.Operands.{memory}
-use Rattle.parser.specs.Views.{line, lineOf, Passes, Reads}
+use Rattle.parser.specs.Views.{Passes, Reads}
 use Rattle.parser.proofs.Chain.{starts, called, comes, hands, reads-refused, refuses-here, is-ahead, is-kind, then-denied, first-denied}
 use Rattle.parser.proofs.OperandLaws.{outermost, word-is, no-word, number-is, no-number}
 use borrow.Author.Needs.{needs}

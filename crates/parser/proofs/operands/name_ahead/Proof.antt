@@ -1,6 +1,6 @@
 -- A word is looked up by its text; any other token names nothing.
 -- Assumes nothing.
-use mathlib.Core.Path.{_≡_, refl, sym, ap, subst, _∙_}
+use mathlib.Core.Path.{ap, _∙_}
 use borrow.Author.Tests.{ne-eqb}
 use Rattle.names.specs.Names.{nameOf}
 use Rattle.parser.proofs.OperandLaws.{word-named, no-name}

@@ -1,8 +1,8 @@
 -- The name is passed, and its record written.
 -- Assumes nothing.
-use mathlib.Core.Path.{_≡_, refl, sym, ap, subst, _∙_}
+use mathlib.Core.Path.{subst}
 use Rattle.rules.specs.Reader.{_>>_}
-use Rattle.parser.specs.Views.{line, lineOf, Passes, Reads}
+use Rattle.parser.specs.Views.{Passes}
 use Rattle.parser.proofs.Chain.{starts, ends, comes, reads-done, reads-refused, writes, first-denied}
 use borrow.Author.Needs.{needs}
 use Rattle.parser.proofs.operands.named.Statement.{statement}

@@ -1,8 +1,8 @@
 -- Size words are passed one by one; the invariant: what the rules' operand has still to read is what they read behind the last of them, with
 -- as many size words to come as tokens are left. Each is one token less.
 -- Assumes nothing.
-use Prim.Native.Nat.{ℕ, suc, _+_, _≤_}
-use mathlib.Core.Path.{_≡_, refl, sym, ap, subst, _∙_}
+use Prim.Native.Nat.{ℕ, suc, _≤_}
+use mathlib.Core.Path.{refl, subst}
 use native.Mathlib.Nat.{le-refl}
 use native.Mathlib.Numerals.{add-one}
 use native.Mathlib.Omega.{arith}
@@ -16,7 +16,7 @@ use Rattle.lexer.specs.Text.{bytes}
 use Rattle.rules.specs.Operands.{operandSized}
 use Rattle.rules.specs.Operands.{operand as rules-operand}
 use Rattle.rules.proofs.Shape.{size-small}
-use Rattle.parser.specs.Views.{line, lineOf, Passes, Reads}
+use Rattle.parser.specs.Views.{line, lineOf, Passes}
 use Rattle.parser.proofs.Chain.{Sofar, starts, comes, denied, hands, reads-refused, is-ahead, is-left, first-denied}
 use Rattle.parser.proofs.Flat.{plain}
 use Rattle.parser.proofs.Steps.{one-less}
@@ -32,7 +32,7 @@ use Rattle.parser.proofs.operands.named.Reads as named-reads
 use Rattle.parser.proofs.state.next.Reads as next-reads
 
 abbrev Inv-loop : tie.InvT-loop
-Inv-loop src out₀ at q₀ size₀ out q size = 
+Inv-loop src out₀ at q₀ size₀ out q size =
     (n : ℕ)
     × (length (lineOf src q .more) ≤ n)
     × Sofar line src q₀ rules-operand at out₀ q (operandSized (suc n) size) at out
@@ -122,12 +122,13 @@ loop-less : tie.Need-loop-less Inv-loop μ-loop
 loop-less c = omega (arith, one-less _ _ _ ((within _ _ _ sizes ((is-size _ (c .before .before .before .before .before .before .before .name-ahead .ensures) (c .before .before .before .before .before .z .given .1)) .2)) .0) ((within _ _ _ sizes ((is-size _ (c .before .before .before .before .before .before .before .name-ahead .ensures) (c .before .before .before .before .before .z .given .1)) .2)) .1) (subst (Passes _ _ _ _) (c .before .after .given .1) (c .before .before .before .next .ensures)))
 
 loop-again : tie.Need-loop-again Inv-loop μ-loop
-loop-again c = 
+loop-again c =
     let less = one-less _ _ _ ((within _ _ _ sizes ((is-size _ (c .before .before .before .before .before .before .before .name-ahead .ensures) (c .before .before .before .before .before .z .given .1)) .2)) .0) ((within _ _ _ sizes ((is-size _ (c .before .before .before .before .before .before .before .name-ahead .ensures) (c .before .before .before .before .before .z .given .1)) .2)) .1) (subst (Passes _ _ _ _) (c .before .after .given .1) (c .before .before .before .next .ensures)) in
-    let fuel = positive (c .before .before .before .before .before .before .before .before .before .before .loop .inv .0) (omega (arith, c .before .before .before .before .before .before .before .before .before .before .loop .inv .1)) in
-    (fuel .0,
-     omega (arith, c .before .before .before .before .before .before .before .before .before .before .loop .inv .1, fuel .1),
-     turns _ _ (c .before .before .before .before .before .before .before .before .before .before .loop .inv .2) (other-ahead (now (c .before .before .before .before .before .before .before .before .before .before .before .before .before .args .src)) (c .before .before .before .before .before .before .before .before .before .before .loop .q) "[" (plain "[" refl) (c .before .before .before .before .before .before .before .before .if1 .left)) ((is-size _ (c .before .before .before .before .before .before .before .name-ahead .ensures) (c .before .before .before .before .before .z .given .1)) .0) ((is-size _ (c .before .before .before .before .before .before .before .name-ahead .ensures) (c .before .before .before .before .before .z .given .1)) .1) ((is-size _ (c .before .before .before .before .before .before .before .name-ahead .ensures) (c .before .before .before .before .before .z .given .1)) .2) (subst (Passes _ _ _ _) (c .before .after .given .1) (c .before .before .before .next .ensures) .so) (fuel .1) (add-one _))
+    let fuel = positive (c .before .before .before .before .before .before .before .before .before .before .loop .inv .0) (omega (arith, c .before .before .before .before .before .before .before .before .before .before .loop .inv .1)) in (
+      fuel .0,
+      omega (arith, c .before .before .before .before .before .before .before .before .before .before .loop .inv .1, fuel .1),
+      turns _ _ (c .before .before .before .before .before .before .before .before .before .before .loop .inv .2) (other-ahead (now (c .before .before .before .before .before .before .before .before .before .before .before .before .before .args .src)) (c .before .before .before .before .before .before .before .before .before .before .loop .q) "[" (plain "[" refl) (c .before .before .before .before .before .before .before .before .if1 .left)) ((is-size _ (c .before .before .before .before .before .before .before .name-ahead .ensures) (c .before .before .before .before .before .z .given .1)) .0) ((is-size _ (c .before .before .before .before .before .before .before .name-ahead .ensures) (c .before .before .before .before .before .z .given .1)) .1) ((is-size _ (c .before .before .before .before .before .before .before .name-ahead .ensures) (c .before .before .before .before .before .z .given .1)) .2) (subst (Passes _ _ _ _) (c .before .after .given .1) (c .before .before .before .next .ensures) .so) (fuel .1) (add-one _),
+    )
 
 pub operand-spec : {M : Type 1} → statement M
 operand-spec =

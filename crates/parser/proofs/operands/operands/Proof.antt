@@ -1,10 +1,10 @@
 -- By the token ahead no operand, or one; by the token behind it the end, a second one, or 11.
 -- Assumes nothing.
-use mathlib.Core.Path.{_≡_, refl, sym, ap, subst, _∙_}
+use mathlib.Core.Path.{refl, subst}
 use denote.Ref.{now}
 use Rattle.rules.specs.Reader.{_>>_}
 use Rattle.rules.specs.Operands.{operands as rules-operands}
-use Rattle.parser.specs.Views.{line, lineOf, Passes, Reads}
+use Rattle.parser.specs.Views.{Reads}
 use Rattle.parser.proofs.Chain.{starts, still, lands, ends, denied, called, comes, returns as gives, refuses-here, is-ahead, is-kind, is-passed, then-comes, then-denied, first-denied}
 use Rattle.parser.proofs.Flat.{plain}
 use Rattle.parser.proofs.OperandLaws.{mark-ahead, other-ahead, end-ahead, hands-operands}

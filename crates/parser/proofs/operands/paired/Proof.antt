@@ -1,7 +1,7 @@
 -- The two choices are those of the definition, and their sum is at most 3.
 -- Assumes nothing.
-use Prim.Native.Nat.{ℕ, _+_}
-use mathlib.Core.Path.{_≡_, refl, sym, ap₂, _∙_}
+use Prim.Native.Nat.{_+_}
+use mathlib.Core.Path.{ap₂}
 use mathlib.Core.Logic.{⊎-elim}
 use native.Mathlib.Omega.{arith}
 use borrow.Author.Tests.{eq-eqb, ne-eqb}
@@ -16,7 +16,7 @@ add-result c = ⊎-elim (λ a. ⊎-elim (λ b. omega arith) (λ b. omega arith) 
 
 returns : tie.Need-returns
 unfolding paired
-returns c = 
+returns c =
     ap₂ _+_
     (⊎-elim (λ a. rw (eq-eqb _ _ (a .0 .taken)) (a .1)) (λ a. rw (ne-eqb _ _ (a .0 .left)) (a .1)) (c .before .before .before .if1 .came))
     (⊎-elim (λ a. rw (eq-eqb _ _ (a .0 .taken)) (a .1)) (λ a. rw (ne-eqb _ _ (a .0 .left)) (a .1)) (c .before .before .if2 .came))

@@ -1,11 +1,11 @@
 -- The plus is passed. Where no register stands behind it, the rules go back as well, to the plus.
 -- Assumes nothing.
-use mathlib.Core.Path.{_≡_, refl, sym, ap, subst, _∙_}
-use mathlib.Core.Option.{none, some}
+use mathlib.Core.Path.{refl, sym, subst, _∙_}
+use mathlib.Core.Option.{none}
 use Rattle.names.specs.Names.{registers}
 use Rattle.rules.specs.Reader.{encoding, _>>_}
 use Rattle.rules.specs.Operands.{plusIndex}
-use Rattle.parser.specs.Views.{line, lineOf, Passes, Reads}
+use Rattle.parser.specs.Views.{Passes}
 use Rattle.parser.proofs.Chain.{refuses, returns as gives, is-ahead, then-comes, then-denied, first-denied, attempt-back, attempt-denied}
 use Rattle.parser.proofs.OperandLaws.{within, is-register, no-register, then-finds, attempt-looks}
 use borrow.Author.Needs.{needs}

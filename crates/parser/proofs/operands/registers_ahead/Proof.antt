@@ -1,6 +1,6 @@
 -- By what the token ahead names: no register, one that may stand first, or another, which is 25.
 -- Assumes nothing.
-use mathlib.Core.Path.{_≡_, refl, sym, ap, ap₂, subst, _∙_}
+use mathlib.Core.Path.{refl, sym, ap₂, _∙_}
 use mathlib.Core.Bool.{_||_}
 use mathlib.Core.Option.{none}
 use Rattle.names.specs.Names.{registers}

@@ -1,6 +1,6 @@
 -- By the token ahead: what `plus_index` finds, or the register alone.
 -- Assumes nothing.
-use mathlib.Core.Path.{_≡_, refl, sym, ap, subst, _∙_}
+use mathlib.Core.Path.{refl}
 use denote.Ref.{now}
 use Rattle.rules.specs.Operands.{second}
 use Rattle.parser.proofs.Chain.{returns as gives, is-kind, then-comes}

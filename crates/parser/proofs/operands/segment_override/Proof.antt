@@ -1,13 +1,13 @@
 -- A segment ahead is passed, and its colon; no register is a segment.
 -- Assumes nothing.
-use mathlib.Core.Path.{_≡_, refl, sym, ap, subst, _∙_}
+use mathlib.Core.Path.{refl, subst}
 use native.Mathlib.Omega.{arith}
 use native.Mathlib.Numerals.{add-one}
 use Rattle.names.specs.Names.{segments}
 use Rattle.rules.specs.Reader.{_>>_}
 use Rattle.rules.specs.Operands.{override}
 use Rattle.rules.proofs.Shape.{segment-small}
-use Rattle.parser.specs.Views.{line, lineOf, Passes, Reads}
+use Rattle.parser.specs.Views.{Passes}
 use Rattle.parser.proofs.Chain.{returns as gives, is-kind, then-comes, then-denied, first-denied}
 use Rattle.parser.proofs.Flat.{plain}
 use Rattle.parser.proofs.OperandLaws.{within, is-segment, no-segment}

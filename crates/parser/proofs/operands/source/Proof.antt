@@ -1,8 +1,8 @@
 -- The comma is passed and the second operand read; the span goes from the first to the last token taken.
 -- Assumes nothing.
-use mathlib.Core.Path.{_≡_, refl, sym, ap, subst, _∙_}
+use mathlib.Core.Path.{subst}
 use Rattle.rules.specs.Reader.{_>>_}
-use Rattle.parser.specs.Views.{line, lineOf, Passes, Reads}
+use Rattle.parser.specs.Views.{Passes, Reads}
 use Rattle.parser.proofs.Chain.{starts, lands, called, comes, returns as gives, is-passed, then-denied, first-denied}
 use borrow.Author.Needs.{needs}
 use Rattle.parser.proofs.operands.source.Statement.{statement}
