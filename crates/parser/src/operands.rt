@@ -228,10 +228,12 @@ fn registers_ahead(src: &[u8], p: Parser) -> RegistersRead
     if is_base(r) | is_index(r) {
         return first(src, p, r);
     }
+    // As the Rust: to the end of the token before the register, and so no proper range.
+    let to = p.last_token_end;
     RegistersRead::Stopped(Refusal {
         number: 25,
         from: p.token_start,
-        to: p.last_token_end,
+        to: to,
         first: r,
         second: 255,
     })
