@@ -9,7 +9,7 @@ use lib.ListN.{length}
 use Rattle.lexer.specs.Text.{if_then_else_, maybe}
 use Rattle.rules.specs.Lexemes.{Kind, Lexeme}
 use Rattle.rules.specs.Records.{Record, encode, listing}
-use Rattle.rules.specs.Reader.{Answer, done, refused, Reader, Line, after, thence, _>>=_, _>>_, return, write, refuse, ahead, kind, passed, left, refuseHere}
+use Rattle.rules.specs.Reader.{Answer, done, refused, Reader, Line, after, thence, _>>=_, _>>_, return, write, refuse, orBack, attempt, ahead, kind, passed, left, refuseHere}
 use Rattle.rules.specs.Reader.{Refusal as Cause, at as at-span}
 use Rattle.rules.specs.Statements.{State, over, inLine}
 use Rattle.records.specs.Writes.{Wrote}
@@ -172,3 +172,30 @@ hands-on {L} {s} {p} {q} {m} {m₁} {i} {w} {l} {l₁} {l₂} {r} so h = record 
     go : (r : Parsed) → ReadsAs L s q m₁ w l₁ l₂ r → ReadsAs L s p m i l l₂ r
     go (Done q₂ w₂) k = ends so k
     go (Refused x) k = denied so k
+
+-- readers that write nothing, one after the other
+module _ {L : Level} {s : List ℕ} {p q : Parser} {A B : Type 0} {m : Reader (On L) B} (k : B → Reader (On L) A) {b : B} (h : Comes L s p m q b) where
+  pub then-comes : {q₂ : Parser} {a : A} → Comes L s q (k b) q₂ a → Comes L s p (m >>= k) q₂ a
+  unfolding _>>=_ thence
+  then-comes {q₂} g = record { reads = ap (λ (o : Answer (On L) B). thence o k) (h .reads) ∙ after-nil _ ∙ g .reads; kept = kept-on L s p q q₂ (h .kept) (g .kept) }
+
+  pub then-denied : {r : Refusal} → Denies L s q (k b) r → Denies L s p (m >>= k) r
+  unfolding _>>=_ thence
+  then-denied g = record { cause = g .cause; reads = ap (λ (o : Answer (On L) B). thence o k) (h .reads) ∙ after-nil _ ∙ g .reads; numbers = g .numbers }
+
+pub first-denied : {L : Level} {s : List ℕ} {p : Parser} {A B : Type 0} {m : Reader (On L) B} (k : B → Reader (On L) A) {r : Refusal} → Denies L s p m r → Denies L s p (m >>= k) r
+first-denied {L} {s} {p} {m = m} k h = called-denied m k (starts L s p (m >>= k) 0 []) h
+
+-- a reader that may find nothing, and goes back then
+module _ {L : Level} {s : List ℕ} {p : Parser} {A : Type 0} {m : Reader (On L) (Option A)} (a : A) where
+  pub attempt-finds : {q : Parser} {b : A} → Comes L s p m q (some b) → Comes L s p (attempt m a) q b
+  unfolding attempt orBack
+  attempt-finds h = record { reads = ap (λ (o : Answer (On L) (Option A)). orBack o a (view L s p)) (h .reads); kept = h .kept }
+
+  pub attempt-back : {q : Parser} → Comes L s p m q none → Comes L s p (attempt m a) p a
+  unfolding attempt orBack
+  attempt-back h = record { reads = ap (λ (o : Answer (On L) (Option A)). orBack o a (view L s p)) (h .reads); kept = kept-here L s p }
+
+  pub attempt-denied : {r : Refusal} → Denies L s p m r → Denies L s p (attempt m a) r
+  unfolding attempt orBack
+  attempt-denied h = record { cause = h .cause; reads = ap (λ (o : Answer (On L) (Option A)). orBack o a (view L s p)) (h .reads); numbers = h .numbers }

@@ -7,3 +7,4 @@ pub mod FullReads
 pub mod ExpressionsReading
 pub mod ExpressionsEvaluate
 pub mod ExpressionsShorter
+pub mod OperandLaws

@@ -134,3 +134,6 @@ module _ (s : List ℕ) (p : Parser) (n : eqb (p .kind) 10 ≡ false) (z : eqb (
   pub one-less : {q : Parser} → Comes line s p next q tt → length (lineOf s p .more) ≡ suc (length (lineOf s q .more))
   unfolding next
   one-less {q} h = stepped (lineOf s p) (lineOf s q) (lineOf s p .more) has-more (h .reads)
+
+pub one-passed : (s : List ℕ) (p q : Parser) → eqb (p .kind) 10 ≡ false → eqb (p .kind) 0 ≡ false → Passes line s p next (Ahead q) → suc (length (lineOf s q .more)) ≡ length (lineOf s p .more)
+one-passed s p q n z h = sym (one-less s p n z (h .so))

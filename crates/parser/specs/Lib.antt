@@ -4,3 +4,4 @@ pub mod Lent
 pub mod Statements
 pub mod Calls
 pub mod Operators
+pub mod Parts
