@@ -18,22 +18,24 @@ use Rattle.rules.specs.Lexemes.{Lexeme, tokensFrom}
 use Rattle.rules.specs.Records.{Record, listing}
 use Rattle.rules.specs.Reader.{Refusal as Cause, at, nowhere, Answer, done, refused, after, thence, arrive, refusedAs}
 use Rattle.rules.specs.Statements.{Row, State, rows, enter, statements, Outcome, accepted, refusal, outcome, readRows, readFrom, fullRead}
-use Rattle.rules.specs.Calls.{Result, gives, refuses, unless, inRoom, overwrite, leaves, listed, foreign}
+use Rattle.rules.specs.Calls.{Result, gives, refuses, unless, lent, inRoom, overwrite, leaves, listed, foreign, fullCall, fullBuffer}
 use Rattle.rules.proofs.Calls.{none-foreign}
 use Rattle.rules.proofs.Shape.{Small}
 use Rattle.rules.proofs.Table.{proper}
 use Rattle.rules.proofs.Bound.{bounded}
+use Rattle.rules.proofs.Listing.{listing-formed, listing-decodes}
 use Rattle.records.specs.Writes.{stores, limit, Wrote}
 use Rattle.records.proofs.Writes.{stores-room}
 use Rattle.parser.specs.declared.state.Parser.{Parser}
 use Rattle.parser.specs.declared.state.Refusal.{Refusal}
 use Rattle.parser.specs.declared.state.Parsed.{Parsed}
 use Rattle.parser.specs.declared.state.Parsed.the-variants as parsed
+use Rattle.parser.specs.declared.reader.FullAnswer.{FullAnswer}
 use Rattle.parser.specs.declared.reader.FullAnswer.the-variants.{Written, Refused}
 use Rattle.parser.specs.Views.{numbersOf, stateOf, whole, Gives, Denies, Reads}
 use Rattle.parser.specs.Lent.{foreignPlace}
 use Rattle.parser.specs.Statements.{begin, Started, NotStarted, ReadsStatements}
-use Rattle.parser.specs.Calls.{fullAnswer, FullRead}
+use Rattle.parser.specs.Calls.{fullAnswer, FullRead, WritesAs, Writes}
 use Rattle.parser.proofs.Chain.{after-nil}
 use Rattle.parser.proofs.Lent.{never-foreign}
 
@@ -54,7 +56,7 @@ unfolding overwrite
 all-copied kept out n h = let e : length (take n kept) ≡ n = length-take n kept ∙ omega arith in rw e
 
 -- Reading rows is reading their first token, and then the statements.
-arrive-then : {A : Type 0} (x : Lexeme) (t : State) (k : State → Answer State A) → arrive x (k t) ≡ thence (arrive x (done [] tt t)) (λ (_ : Unit {0}). k)
+pub arrive-then : {A : Type 0} (x : Lexeme) (t : State) (k : State → Answer State A) → arrive x (k t) ≡ thence (arrive x (done [] tt t)) (λ (_ : Unit {0}). k)
 unfolding arrive thence
 arrive-then {A} x t k = go (refusedAs (x .kind))
   where
@@ -172,3 +174,39 @@ module _ {s : List ℕ} {p : Parser} (short : length s ≤ 65536) (plain : forei
 
     pub never-denied : {l l′ : List ℕ} {r : Refusal} → ReadsStatements operations s p 0 l l′ (parsed.Refused r) → ⊥
     never-denied k = let (c, e, _) = denies operations s p b k in never-both (sym (first .reads) ∙ e)
+
+-- The whole call, from the full read of a source that is one to read.
+module _ (s l l′ : List ℕ) {r : FullAnswer} where
+  pub call-answer : lent s (listed (length l) (fullRead operations s)) ≡ listed (length l) (fullRead operations s) → FullRead s l l′ r → r ≡ fullAnswer (fullCall operations s (length l))
+  unfolding fullCall
+  call-answer e f = f .answer ∙ ap fullAnswer (sym e)
+
+  pub call-buffer : lent s (listed (length l) (fullRead operations s)) ≡ listed (length l) (fullRead operations s) → FullRead s l l′ r → l′ ≡ fullBuffer operations s l
+  unfolding fullBuffer fullCall
+  call-buffer e f = f .buffer ∙ ap (λ (x : Result (List Record)). leaves listing x l) (sym e)
+
+module _ (s l : List ℕ) {r : Refusal} (d : (c : Cause) × (lent s (listed (length l) (fullRead operations s)) ≡ refuses c) × (r ≡ numbersOf c)) where
+  pub call-denied : Refused r ≡ fullAnswer (fullCall operations s (length l))
+  unfolding fullCall
+  call-denied = let (c, e, k) = d in rw e (ap Refused k)
+
+  pub buffer-denied : l ≡ fullBuffer operations s l
+  unfolding fullBuffer fullCall leaves
+  buffer-denied = let (c, e, k) = d in rw e
+
+-- What an accepted call has written.
+module _ (s l l′ : List ℕ) (m : Small s) (short : length s ≤ 65536) where
+  written-so : (o : Outcome) → fullRead operations s ≡ o → {r : FullAnswer} → r ≡ fullAnswer (listed (length l) o) → l′ ≡ leaves listing (listed (length l) o) l → WritesAs s l′ r
+  unfolding listed inRoom unless leaves overwrite
+  written-so (refusal c) e k h = rw k tt
+  written-so (accepted v) e k h = go (ltb (length l) (length (listing v))) refl k h
+    where
+      go : (b : Bool) → ltb (length l) (length (listing v)) ≡ b → {r : FullAnswer} → r ≡ fullAnswer (unless b (nowhere 4) (gives v)) → l′ ≡ leaves listing (unless b (nowhere 4) (gives v)) l → WritesAs s l′ r
+      go true i k h = rw k tt
+      go false i k h =
+          let f : take (length (listing v)) l′ ≡ listing v = rw h (take-append-seam (listing v) (drop (length (listing v)) l)) in
+          let n : length l′ ≡ length (listing v) + length (drop (length (listing v)) l) = ap length h ∙ length-append (listing v) (drop (length (listing v)) l) in
+          rw k (omega arith, bounded operations proper s v m e, rw (f, listing-decodes operations proper s v m short e) (listing-formed operations proper s v m e))
+
+  pub is-well-written : {r : FullAnswer} → FullRead s l l′ r → Writes s l′ r
+  is-well-written f = record { so = written-so (fullRead operations s) refl (f .answer) (f .buffer) }

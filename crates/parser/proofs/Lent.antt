@@ -11,9 +11,10 @@ use native.Mathlib.Numerals.{add-one}
 use lib.Dec.{ltb}
 use lib.ListN.{length, drop, getD, drop-of-length-le}
 use lib.Seq.{drop-cons}
-use borrow.Author.Tests.{lt-ltb, le-ltb}
+use borrow.Author.Tests.{lt-ltb, le-ltb, ltb-false}
 use Rattle.lexer.specs.Text.{if_then_else_, maybe}
-use Rattle.rules.specs.Reader.{at, nowhere}
+use Rattle.rules.specs.Reader.{Refusal as Cause, at, nowhere}
+use Rattle.parser.specs.declared.state.Refusal.{Refusal}
 use Rattle.rules.specs.Calls.{Result, gives, refuses, unless, mostBytes, tooLong, foreign, ascii, lent, lentAt}
 use Rattle.parser.specs.declared.reader.Lent.the-variants.{Accepted, Refused}
 use Rattle.parser.specs.Views.{numbersOf}
@@ -90,3 +91,44 @@ module _ (s : List ℕ) where
     pub not-far : p ≤ length s → lentOf s ≡ lentAtOf s p
     unfolding lentAtOf lentOf lentAt unless
     not-far h = rw (le-ltb (length s) p h)
+
+never : {r : Refusal} → Refused r ≡ Accepted → ⊥
+never e = let z : _≡_ {A = ℕ} 0 1 = cc in omega arith
+
+-- What the answer says of a call on the source.
+module _ {A : Type 0} (s : List ℕ) (x : Result A) where
+  lent-any : (o : Option ℕ) (b : Bool) → {r : Refusal} → Refused r ≡ lentAnswer (unless b (nowhere 1) (maybe {B = Result (Unit {0})} o (gives tt) (λ p. refuses (at 2 p (suc p))))) → (c : Cause) × (unless b (nowhere 1) (maybe {B = Result A} o x (λ p. refuses (at 2 p (suc p)))) ≡ refuses c) × (r ≡ numbersOf c)
+  unfolding unless
+  lent-any o true e = (nowhere 1, refl, cc)
+  lent-any none false e = absurd (never e)
+  lent-any (some p) false e = (at 2 p (suc p), refl, cc)
+
+  pub lent-refused : {r : Refusal} → Refused r ≡ lentOf s → (c : Cause) × (lent s x ≡ refuses c) × (r ≡ numbersOf c)
+  unfolding lentOf lent ascii
+  lent-refused e = lent-any (foreign 0 s) (tooLong s) e
+
+  pub lentAt-refused : (p : ℕ) {r : Refusal} → Refused r ≡ lentAtOf s p → (c : Cause) × (lentAt s p x ≡ refuses c) × (r ≡ numbersOf c)
+  unfolding lentAtOf lentAt lentOf unless
+  lentAt-refused p {r} e = go (ltb (length s) p) e
+    where
+      go : (b : Bool) → Refused r ≡ lentAnswer (unless b (nowhere 42) (lent s (gives tt))) → (c : Cause) × (unless b (nowhere 42) (lent s x) ≡ refuses c) × (r ≡ numbersOf c)
+      go true e = (nowhere 42, refl, cc)
+      go false e = lent-refused e
+
+  pub lent-accepted : Accepted ≡ lentOf s → (lent s x ≡ x) × (length s ≤ 65536) × (foreignPlace s ≡ length s)
+  unfolding lentOf lent ascii foreignPlace tooLong mostBytes unless
+  lent-accepted e = go (ltb 65536 (length s)) refl (foreign 0 s) e
+    where
+      go : (b : Bool) → ltb 65536 (length s) ≡ b → (o : Option ℕ) → Accepted ≡ lentAnswer (unless b (nowhere 1) (maybe {B = Result (Unit {0})} o (gives tt) (λ p. refuses (at 2 p (suc p)))))
+          → (unless b (nowhere 1) (maybe {B = Result A} o x (λ p. refuses (at 2 p (suc p)))) ≡ x) × (length s ≤ 65536) × (maybe o (length s) (λ p. p) ≡ length s)
+      go true k o e = absurd (never (sym e))
+      go false k none e = (refl, ltb-false 65536 (length s) k, refl)
+      go false k (some p) e = absurd (never (sym e))
+
+  pub lentAt-accepted : (p : ℕ) → Accepted ≡ lentAtOf s p → (lentAt s p x ≡ x) × (length s ≤ 65536) × (foreignPlace s ≡ length s) × (p ≤ length s)
+  unfolding lentAtOf lentAt lentOf unless
+  lentAt-accepted p e = go (ltb (length s) p) refl e
+    where
+      go : (b : Bool) → ltb (length s) p ≡ b → Accepted ≡ lentAnswer (unless b (nowhere 42) (lent s (gives tt))) → (unless b (nowhere 42) (lent s x) ≡ x) × (length s ≤ 65536) × (foreignPlace s ≡ length s) × (p ≤ length s)
+      go true k e = absurd (never (sym e))
+      go false k e = let (i, j, l) = lent-accepted e in (i, j, l, ltb-false (length s) p k)

@@ -8,3 +8,4 @@ pub mod ExpressionsReading
 pub mod ExpressionsEvaluate
 pub mod ExpressionsShorter
 pub mod OperandLaws
+pub mod OneReads

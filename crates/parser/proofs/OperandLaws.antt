@@ -23,7 +23,7 @@ use Rattle.rules.specs.Lexemes.{textOf as wordOf}
 use Rattle.rules.specs.Reader.{Reader, Line, _>>=_, _>>_, attempt, isMark, isLineEnd, next, ahead}
 use Rattle.rules.specs.Expressions.{expr, expression}
 use Rattle.rules.specs.Operands.{Operands, isWord, isNumber, operandSized}
-use Rattle.rules.proofs.Progress.{name-inside}
+use Rattle.rules.proofs.TokenKinds.{name-inside}
 use Rattle.rules.proofs.Reencode.{same-true}
 use Rattle.parser.specs.declared.state.Parser.{Parser}
 use Rattle.parser.specs.declared.state.Parsed.{Parsed}

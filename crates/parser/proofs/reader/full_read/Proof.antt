@@ -1,3 +1,13 @@
+-- 1 and 2, then the reading of all statements.
+-- Assumes nothing.
+use mathlib.Core.Path.{_≡_, refl, sym, ap, subst, _∙_}
+use denote.Ref.{now}
+use lib.ListN.{length}
+use Rattle.names.specs.Table.{operations}
+use Rattle.rules.specs.Calls.{listed}
+use Rattle.rules.specs.Statements.{fullRead}
+use Rattle.parser.proofs.Lent.{lent-refused, lent-accepted}
+use Rattle.parser.proofs.FullReads.{call-answer, call-buffer, call-denied, buffer-denied, is-well-written, small}
 use borrow.Author.Needs.{needs}
 use Rattle.parser.proofs.reader.full_read.Statement.{statement}
 use Rattle.parser.proofs.reader.full_read.Tie as tie
@@ -6,33 +16,26 @@ use Rattle.parser.proofs.reader.full_read.Lts as lts
 use Rattle.parser.proofs.reader.read_all.Reads as read-all-reads
 use Rattle.parser.proofs.reader.readable.Reads as readable-reads
 
--- src/reader.rt:173:11
 readable-requires : tie.Need-readable-requires
 readable-requires c κs = search needs
 
--- src/reader.rt:174:23
 enum-known-r : tie.Need-enum-known-r
 enum-known-r c = search needs
 
--- src/reader.rt:175:44
 enum-told : tie.Need-enum-told
 enum-told c = search needs
 
--- src/reader.rt:175:27
 read-all-requires : tie.Need-read-all-requires
-read-all-requires c κs = ?
+read-all-requires c κs = let a = (lent-accepted _ (listed (length (now (c .before .before .before .before .before .before .args .out))) (fullRead operations (now (c .before .before .before .before .before .before .args .source)))) (sym (c .before .enum-told .given .1) ∙ c .before .before .before .readable .ensures)) in (a .1, a .2)
 
--- src/reader.rt:168:1
 returns : tie.Need-returns
-returns c = ?
+returns c = let d = (lent-refused _ (listed (length (now (c .before .before .before .before .before .before .args .out))) (fullRead operations (now (c .before .before .before .before .before .before .args .source)))) (sym (c .before .r .given .1) ∙ c .before .before .before .readable .ensures)) in (call-denied _ _ d, (buffer-denied _ _ d, record { so = tt }))
 
--- src/reader.rt:168:1
 same-length : tie.Need-same-length
 same-length c = search needs
 
--- src/reader.rt:168:1
 returns-2 : tie.Need-returns-2
-returns-2 c = ?
+returns-2 c = let a = (lent-accepted _ (listed (length (now (c .before .before .before .before .before .before .before .before .before .args .out))) (fullRead operations (now (c .before .before .before .before .before .before .before .before .before .args .source)))) (sym (c .before .before .before .before .enum-told .given .1) ∙ c .before .before .before .before .before .before .readable .ensures)) in (call-answer _ _ _ (a .0) (c .before .before .read-all .ensures), (call-buffer _ _ _ (a .0) (c .before .before .read-all .ensures), is-well-written _ _ _ (small _ (a .2)) (a .1) (c .before .before .read-all .ensures)))
 
 pub full-read-spec : {M : Type 1} → statement M
 full-read-spec =

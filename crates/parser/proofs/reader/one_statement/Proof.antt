@@ -1,3 +1,10 @@
+-- Measured over an empty buffer, and written where it fits: the second reading reads the same.
+-- Assumes nothing.
+use mathlib.Core.Path.{_≡_, refl, sym, ap, subst, _∙_}
+use native.Mathlib.Omega.{arith}
+use Rattle.names.proofs.Operations.{made-good}
+use Rattle.parser.specs.Statements.{ReadsStatement}
+use Rattle.parser.proofs.OneReads.{denied-there, none-there, no-room, read-again, never-denied, never-none}
 use borrow.Author.Needs.{needs}
 use Rattle.parser.proofs.reader.one_statement.Statement.{statement}
 use Rattle.parser.proofs.reader.one_statement.Tie as tie
@@ -6,85 +13,65 @@ use Rattle.parser.proofs.reader.one_statement.Lts as lts
 use Rattle.parser.proofs.state.refused_at.Reads as refused-at-reads
 use Rattle.parser.proofs.statements.statement.Reads as statement-reads
 
--- src/reader.rt:185:36
 slice-aggregate-statement : tie.Need-slice-aggregate-statement
 slice-aggregate-statement c = search needs
 
--- src/reader.rt:185:11
 statement-requires : tie.Need-statement-requires
-statement-requires c κs = ?
+statement-requires c κs = (c .before .before .before .pre .0, made-good (c .before .before .before .pre .3))
 
--- src/reader.rt:186:32
 enum-known-r : tie.Need-enum-known-r
 enum-known-r c = search needs
 
--- src/reader.rt:187:39
 enum-told : tie.Need-enum-told
 enum-told c = search needs
 
--- src/reader.rt:188:29
 enum-known-q : tie.Need-enum-known-q
 enum-known-q c = search needs
 
--- src/reader.rt:189:24
 cast-size : tie.Need-cast-size
 cast-size c = search needs
 
--- src/reader.rt:191:49
 refused-at-requires : tie.Need-refused-at-requires
 refused-at-requires c κs = search needs
 
--- src/reader.rt:191:17
 returns : tie.Need-returns
-returns c = ?
+returns c = rw (c .refused-at .ensures) (no-room _ _ _ (c .before .before .before .before .before .before .before .before .before .before .pre .4) (c .before .before .before .before .before .before .before .before .before .before .pre .0) (c .before .before .before .before .before .before .before .before .before .before .pre .1) (c .before .before .before .before .before .before .before .before .before .before .pre .2) (rw (c .before .before .before .before .before .before .before .before .before .before .pre .3) at (subst (ReadsStatement _ _ _ _ _ _) (c .before .before .before .q .given .1) (c .before .before .before .before .before .before .statement .ensures))) (c .before .if1 .taken))
 
--- src/reader.rt:193:19
 statement-requires-2 : tie.Need-statement-requires-2
-statement-requires-2 c κs = ?
+statement-requires-2 c κs = (c .before .before .before .before .before .before .before .before .before .before .pre .0, made-good (c .before .before .before .before .before .before .before .before .before .before .pre .3))
 
--- src/reader.rt:194:40
 enum-known-r-2 : tie.Need-enum-known-r-2
 enum-known-r-2 c = search needs
 
--- src/reader.rt:195:47
 enum-told-2 : tie.Need-enum-told-2
 enum-told-2 c = search needs
 
--- src/reader.rt:196:46
 enum-told-3 : tie.Need-enum-told-3
 enum-told-3 c = search needs
 
--- src/reader.rt:180:1
 returns-2 : tie.Need-returns-2
-returns-2 c = ?
+returns-2 c = denied-there _ _ _ (c .before .before .before .before .before .before .before .before .pre .4) (rw (c .before .before .before .before .before .before .before .before .pre .3) at (subst (ReadsStatement _ _ _ _ _ _) (c .before .r .given .1) (c .before .before .before .before .statement .ensures)))
 
--- src/reader.rt:180:1
 returns-3 : tie.Need-returns-3
-returns-3 c = ?
+returns-3 c = none-there _ _ _ (c .before .before .before .before .before .before .before .pre .4) (rw (c .before .before .before .before .before .before .before .pre .3) at (subst (ReadsStatement _ _ _ _ _ _) (c .enum-told .given .1) (c .before .before .before .statement .ensures)))
 
--- src/reader.rt:180:1
 same-length : tie.Need-same-length
 same-length c = search needs
 
--- src/reader.rt:180:1
 returns-4 : tie.Need-returns-4
-returns-4 c = ?
+returns-4 c = absurd (never-denied _ _ _ (c .before .before .before .before .before .before .before .before .before .before .before .before .before .before .before .before .pre .4) (c .before .before .before .before .before .before .before .before .before .before .before .before .before .before .before .before .pre .0) (c .before .before .before .before .before .before .before .before .before .before .before .before .before .before .before .before .pre .1) (c .before .before .before .before .before .before .before .before .before .before .before .before .before .before .before .before .pre .2) (rw (c .before .before .before .before .before .before .before .before .before .before .before .before .before .before .before .before .pre .3) at (subst (ReadsStatement _ _ _ _ _ _) (c .before .before .before .before .before .before .before .before .before .q .given .1) (c .before .before .before .before .before .before .before .before .before .before .before .before .statement .ensures))) (rw (c .before .before .before .before .before .before .before .before .before .before .before .before .before .before .before .before .pre .3) at (subst (ReadsStatement _ _ _ _ _ _) (c .before .r2 .given .1) (c .before .before .before .before .before .statement2 .ensures))))
 
--- src/reader.rt:180:1
 same-length-2 : tie.Need-same-length-2
 same-length-2 c = search needs
 
--- src/reader.rt:180:1
 returns-5 : tie.Need-returns-5
-returns-5 c = ?
+returns-5 c = absurd (never-none _ _ _ (c .before .before .before .before .before .before .before .before .before .before .before .before .before .before .before .pre .4) (c .before .before .before .before .before .before .before .before .before .before .before .before .before .before .before .pre .0) (c .before .before .before .before .before .before .before .before .before .before .before .before .before .before .before .pre .1) (c .before .before .before .before .before .before .before .before .before .before .before .before .before .before .before .pre .2) (rw (c .before .before .before .before .before .before .before .before .before .before .before .before .before .before .before .pre .3) at (subst (ReadsStatement _ _ _ _ _ _) (c .before .before .before .before .before .before .before .before .q .given .1) (c .before .before .before .before .before .before .before .before .before .before .before .statement .ensures))) (rw (c .before .before .before .before .before .before .before .before .before .before .before .before .before .before .before .pre .3) at (subst (ReadsStatement _ _ _ _ _ _) (c .enum-told2 .given .1) (c .before .before .before .before .statement2 .ensures))))
 
--- src/reader.rt:180:1
 same-length-3 : tie.Need-same-length-3
 same-length-3 c = search needs
 
--- src/reader.rt:180:1
 returns-6 : tie.Need-returns-6
-returns-6 c = ?
+returns-6 c = read-again _ _ _ (c .before .before .before .before .before .before .before .before .before .before .before .before .before .before .before .pre .4) (c .before .before .before .before .before .before .before .before .before .before .before .before .before .before .before .pre .0) (c .before .before .before .before .before .before .before .before .before .before .before .before .before .before .before .pre .1) (c .before .before .before .before .before .before .before .before .before .before .before .before .before .before .before .pre .2) (rw (c .before .before .before .before .before .before .before .before .before .before .before .before .before .before .before .pre .3) at (subst (ReadsStatement _ _ _ _ _ _) (c .before .before .before .before .before .before .before .before .q .given .1) (c .before .before .before .before .before .before .before .before .before .before .before .statement .ensures))) (c .before .before .before .before .before .before .if1 .left) (rw (c .before .before .before .before .before .before .before .before .before .before .before .before .before .before .before .pre .3) at (subst (ReadsStatement _ _ _ _ _ _) (c .enum-told3 .given .1) (c .before .before .before .before .statement2 .ensures)))
 
 pub one-statement-spec : {M : Type 1} → statement M
 one-statement-spec =

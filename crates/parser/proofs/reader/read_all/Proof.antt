@@ -1,3 +1,9 @@
+-- The first token is read, then all statements.
+-- Assumes nothing.
+use mathlib.Core.Path.{_≡_, refl, sym, ap, subst, _∙_}
+use Rattle.names.specs.Table.{operations}
+use Rattle.parser.specs.Statements.{Starts}
+use Rattle.parser.proofs.FullReads.{is-denied, not-begun}
 use borrow.Author.Needs.{needs}
 use Rattle.parser.proofs.reader.read_all.Statement.{statement}
 use Rattle.parser.proofs.reader.read_all.Tie as tie
@@ -7,35 +13,27 @@ use Rattle.names.proofs.table.Reads as table-reads
 use Rattle.parser.proofs.reader.all_statements.Reads as all-statements-reads
 use Rattle.parser.proofs.statements.start.Reads as start-reads
 
--- src/reader.rt:158:11
 start-requires : tie.Need-start-requires
 start-requires c κs = search needs
 
--- src/reader.rt:159:23
 enum-known-r : tie.Need-enum-known-r
 enum-known-r c = search needs
 
--- src/reader.rt:160:21
 enum-known-p : tie.Need-enum-known-p
 enum-known-p c = search needs
 
--- src/reader.rt:161:25
 table-requires : tie.Need-table-requires
 table-requires c κs = search needs
 
--- src/reader.rt:162:13
 all-statements-requires : tie.Need-all-statements-requires
-all-statements-requires c κs = ?
+all-statements-requires c κs = (c .before .before .before .before .before .before .before .before .before .pre .0, c .before .before .before .before .before .before .before .before .before .pre .1, c .before .before .table .ensures, subst (Starts _ _) (c .before .before .before .before .p .given .1) (c .before .before .before .before .before .before .start .ensures) .so)
 
--- src/reader.rt:154:1
 returns : tie.Need-returns
-returns c = ?
+returns c = is-denied _ _ (not-begun operations _ (subst (Starts _ _) (c .before .r .given .1) (c .before .before .before .start .ensures) .so))
 
--- src/reader.rt:154:1
 same-length : tie.Need-same-length
 same-length c = search needs
 
--- src/reader.rt:154:1
 returns-2 : tie.Need-returns-2
 returns-2 c = search needs
 

@@ -1,3 +1,10 @@
+-- 42, 1 and 2, then the reading of one statement.
+-- Assumes nothing.
+use mathlib.Core.Path.{_≡_, refl, sym, ap, subst, _∙_}
+use native.Mathlib.Omega.{arith}
+use denote.Ref.{now}
+use Rattle.parser.proofs.Lent.{lentAt-refused, lentAt-accepted}
+use Rattle.parser.proofs.OneReads.{inner, call-answer, call-buffer, call-denied, buffer-denied}
 use borrow.Author.Needs.{needs}
 use Rattle.parser.proofs.reader.statement_read.Statement.{statement}
 use Rattle.parser.proofs.reader.statement_read.Tie as tie
@@ -6,37 +13,29 @@ use Rattle.parser.proofs.reader.statement_read.Lts as lts
 use Rattle.parser.proofs.reader.read_one.Reads as read-one-reads
 use Rattle.parser.proofs.reader.readable_at.Reads as readable-at-reads
 
--- src/reader.rt:221:11
 readable-at-requires : tie.Need-readable-at-requires
 readable-at-requires c κs = search needs
 
--- src/reader.rt:222:23
 enum-known-r : tie.Need-enum-known-r
 enum-known-r c = search needs
 
--- src/reader.rt:223:44
 enum-told : tie.Need-enum-told
 enum-told c = search needs
 
--- src/reader.rt:223:44
 cast-read-one : tie.Need-cast-read-one
-cast-read-one c = ?
+cast-read-one c = let a = (lentAt-accepted _ (inner (now (c .before .before .before .before .before .args .source)) (c .before .before .before .before .before .args .place) (now (c .before .before .before .before .before .args .out))) _ (sym (c .enum-told .given .1) ∙ c .before .before .readable-at .ensures)) in omega (arith, a .1, a .3)
 
--- src/reader.rt:223:27
 read-one-requires : tie.Need-read-one-requires
-read-one-requires c κs = ?
+read-one-requires c κs = let a = (lentAt-accepted _ (inner (now (c .before .before .before .before .before .before .args .source)) (c .before .before .before .before .before .before .args .place) (now (c .before .before .before .before .before .before .args .out))) _ (sym (c .before .enum-told .given .1) ∙ c .before .before .before .readable-at .ensures)) in (a .1, a .2, a .3)
 
--- src/reader.rt:217:1
 returns : tie.Need-returns
-returns c = ?
+returns c = let d = (lentAt-refused _ (inner (now (c .before .before .before .before .before .before .args .source)) (c .before .before .before .before .before .before .args .place) (now (c .before .before .before .before .before .before .args .out))) _ (sym (c .before .r .given .1) ∙ c .before .before .before .readable-at .ensures)) in (call-denied _ _ _ d, buffer-denied _ _ _ d)
 
--- src/reader.rt:217:1
 same-length : tie.Need-same-length
 same-length c = search needs
 
--- src/reader.rt:217:1
 returns-2 : tie.Need-returns-2
-returns-2 c = ?
+returns-2 c = let a = (lentAt-accepted _ (inner (now (c .before .before .before .before .before .before .before .before .before .args .source)) (c .before .before .before .before .before .before .before .before .before .args .place) (now (c .before .before .before .before .before .before .before .before .before .args .out))) _ (sym (c .before .before .before .before .enum-told .given .1) ∙ c .before .before .before .before .before .before .readable-at .ensures)) in (call-answer _ _ _ (a .0) (c .before .before .read-one .ensures), call-buffer _ _ _ (a .0) (c .before .before .read-one .ensures))
 
 pub statement-read-spec : {M : Type 1} → statement M
 statement-read-spec =
