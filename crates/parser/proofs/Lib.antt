@@ -2,3 +2,6 @@ pub mod Chain
 pub mod Flat
 pub mod Stream
 pub mod Steps
+pub mod StatementsLines
+pub mod StatementsForms
+pub mod StatementsData

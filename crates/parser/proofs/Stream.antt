@@ -159,7 +159,7 @@ module _ (s : List ℕ) (at : ℕ) where
 
 -- Lines.
 -- the first token of some begins the first row
-rows-first : (y : Lexeme) (ys : List Lexeme) → rows (y ∷ ys) ≡ record { first = y; more = moreOf y ys } ∷ belowOf y ys
+pub rows-first : (y : Lexeme) (ys : List Lexeme) → rows (y ∷ ys) ≡ record { first = y; more = moreOf y ys } ∷ belowOf y ys
 unfolding rows push moreOf belowOf
 rows-first y ys = by-end (isLineEnd (y .kind)) (rows ys)
   where

@@ -1,2 +1,3 @@
 pub mod Views
 pub mod Answers
+pub mod Statements

@@ -2,3 +2,4 @@
 pub mod state;
 pub mod expressions;
 pub mod operands;
+pub mod statements;
