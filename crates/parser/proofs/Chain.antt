@@ -182,3 +182,11 @@ module _ {L : Level} {s : List ℕ} {p : Parser} {m m₁ : Reader (On L) (Unit {
       go : (r : Parsed) → ReadsAs L s p m₁ i l l′ r → ReadsAs L s p m i l l′ r
       go (Done q w) h = record { v = h .v; reads = e ∙ h .reads; kept = h .kept; wrote = h .wrote }
       go (Refused r) h = denied-by h
+
+-- what is left is read, whatever its answer
+pub reads-on : {L : Level} {s : List ℕ} {p q : Parser} {m m₁ : Reader (On L) (Unit {0})} {i w : ℕ} {l l₁ l₂ : List ℕ} {r : Parsed} → Sofar L s p m i l q m₁ w l₁ → Reads L s q m₁ w l₁ l₂ r → Reads L s p m i l l₂ r
+reads-on {L} {s} {p} {q} {m} {m₁} {i} {w} {l} {l₁} {l₂} {r} so h = record { so = go r (h .so) }
+  where
+    go : (r : Parsed) → ReadsAs L s q m₁ w l₁ l₂ r → ReadsAs L s p m i l l₂ r
+    go (Done q₂ w₂) h = ends so h
+    go (Refused r) h = denied so h

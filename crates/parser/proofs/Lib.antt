@@ -5,3 +5,4 @@ pub mod Steps
 pub mod StatementsLines
 pub mod StatementsForms
 pub mod StatementsData
+pub mod StatementsRun

@@ -17,9 +17,9 @@ use Rattle.records.specs.Writes.{limit, Wrote}
 use Rattle.records.proofs.Writes.{nothing, follows, headed}
 use Rattle.parser.specs.declared.state.Parser.{Parser}
 use Rattle.parser.specs.declared.state.Refusal.{Refusal}
-use Rattle.parser.specs.Views.{numbersOf, kindBy, textOf, hereOf, lineOf, rowsOf, line, Comes, Denies}
+use Rattle.parser.specs.Views.{numbersOf, kindBy, textOf, hereOf, stateOf, lineOf, rowsOf, line, whole, Comes, Denies}
 use Rattle.parser.specs.Statements.{between, isSome, front, Literal, NoLiteral, literalsFrom, Literals}
-use Rattle.parser.proofs.Chain.{after-nil}
+use Rattle.parser.proofs.Chain.{after-nil, Sofar, becomes, denied, refuses}
 use Rattle.parser.proofs.Flat.{by-kind}
 use Rattle.parser.proofs.StatementsLines.{inside-falls}
 
@@ -166,16 +166,23 @@ module _ {s : List ℕ} {p : Parser} {width i : ℕ} {l : List ℕ} {q : Parser}
     unfolding front thence
     front-stops k = record { cause = k .cause; reads = so .reads ∙ ap (front (so .bs)) (turn-denied s q width h (k .reads)); numbers = k .numbers }
 
--- The record of data: 23 where there are none.
-pub some-data : (x : Lexeme) (ds : List ℕ) → isSome ds ≡ true → someData x ds ≡ (inLine passed >>= λ t. lineEnd >> write (LD (x .from) t ds))
-unfolding someData
-some-data x [] e = cc
-some-data x (b ∷ bs) e = refl
+-- The record of data, whose word was x; 23 where there are none.
+module _ {s : List ℕ} {p q : Parser} {m : Reader State (Unit {0})} {i w : ℕ} {l l₁ : List ℕ} (x : Lexeme) (ds : List ℕ) (so : Sofar whole s p m i l q (someData x ds) w l₁) where
+  pub data-some : isSome ds ≡ true → Sofar whole s p m i l q (inLine passed >>= λ t. lineEnd >> write (LD (x .from) t ds)) w l₁
+  unfolding someData
+  data-some e = becomes so (go ds e)
+    where
+      go : (ds : List ℕ) → isSome ds ≡ true → someData x ds (stateOf s q) ≡ (inLine passed >>= λ t. lineEnd >> write (LD (x .from) t ds)) (stateOf s q)
+      go [] e = cc
+      go (b ∷ bs) e = refl
 
-pub no-data : (x : Lexeme) (ds : List ℕ) → isSome ds ≡ false → someData x ds ≡ refuse (at-span 23 (x .from) (x .to))
-unfolding someData
-no-data x [] e = refl
-no-data x (b ∷ bs) e = cc
+  pub data-none : isSome ds ≡ false → {r : Refusal} → r ≡ numbersOf (at-span 23 (x .from) (x .to)) → Denies whole s p m r
+  unfolding someData
+  data-none e f = denied (becomes so (go ds e)) (refuses (at-span 23 (x .from) (x .to)) f)
+    where
+      go : (ds : List ℕ) → isSome ds ≡ false → someData x ds (stateOf s q) ≡ refuse (at-span 23 (x .from) (x .to)) (stateOf s q)
+      go [] e = refl
+      go (b ∷ bs) e = cc
 
 pub wrote-data : (f t : ℕ) {i first w r : ℕ} (ds : List ℕ) {l l₁ l₂ : List ℕ} → (i ≤ first) × (i + 14 ≤ limit → first ≡ i + 14) → Wrote first ds l l₁ w → Wrote i (76 ∷ 68 ∷ fields (f ∷ t ∷ (w - first) ∷ [])) l₁ l₂ r
     → Wrote i (encode (LD f t ds)) l l₂ w

@@ -9,22 +9,24 @@ use mathlib.Core.Option.{Option, none, some}
 use lib.Dec.{eqb, ltb}
 use Rattle.lexer.specs.Text.{if_then_else_, maybe, bytes, lower, same}
 use Rattle.names.specs.Names.{directives, placeFrom, named, operationNamed, foundOf, directiveFrom, directiveOf}
+use Rattle.names.specs.declared.Found.{Found}
 use Rattle.names.specs.declared.Found.the-variants as found
 use Rattle.names.specs.declared.Directive.{Directive}
 use Rattle.names.specs.declared.Directive.the-variants as directive
 use Rattle.rules.specs.Lexemes.{Kind, word, Lexeme, nameIn, operationIn}
 use Rattle.rules.specs.Lexemes.{textOf as wordOf}
-use Rattle.rules.specs.Records.{LL, LI, encode}
-use Rattle.rules.specs.Reader.{Answer, done, refused, Reader, Line, after, thence, _>>=_, _>>_, return, write, ahead, kind, passed, next, refuseHere, isMark, isLineEnd}
+use Rattle.rules.specs.Records.{LL, LI, LT, encode}
+use Rattle.rules.specs.Reader.{at as at-span, Answer, done, refused, Reader, Line, after, thence, _>>=_, _>>_, return, write, refuse, ahead, kind, passed, next, refuseHere, isMark, isLineEnd}
 use Rattle.rules.specs.Expressions.{expression}
 use Rattle.rules.specs.Operands.{operands, isWord}
 use Rattle.rules.specs.Statements.{State, over, inLine, lineEnd, skipLines, passing, label, rep, repne, instruction, constant, dataOf, line, content, times}
 use Rattle.records.specs.Writes.{Wrote}
 use Rattle.parser.specs.declared.state.Parser.{Parser}
 use Rattle.parser.specs.declared.state.Refusal.{Refusal}
-use Rattle.parser.specs.Views.{kindBy, Plain, textOf, hereOf, stateOf, whole, Gives, Denies, Comes}
+use Rattle.parser.specs.Views.{numbersOf, kindBy, Plain, textOf, hereOf, stateOf, whole, Gives, Denies, Comes}
 use Rattle.parser.specs.Views.{line as inside}
-use Rattle.parser.proofs.Chain.{after-nil, Sofar, starts, becomes, comes, called, called-denied, ends, lifts-comes, lifts-denied, writes, returns, is-ahead, is-kind}
+use Rattle.parser.proofs.Chain.{after-nil, Sofar, starts, becomes, comes, called, called-denied, ends, lifts-comes, lifts-denied, denied, refuses, refuses-here, writes, returns, is-ahead, is-kind}
+use Rattle.parser.proofs.StatementsLines.{end-is}
 use Rattle.parser.proofs.Flat.{by-kind, mark-is}
 
 -- past the word that a statement begins with
@@ -133,12 +135,14 @@ module _ (table s : List ℕ) (p : Parser) (t : Reader State (Unit {0})) where
     unfolding operationIn nameIn isWord wordOf
     line-word = line-is ∙ ap (λ (k : Kind). choice t (hereOf s p) (operationIn table k) (nameIn directives k) (isWord k) (stateOf s p)) word-kind
 
-    pub line-operation : (op : ℕ) → operationNamed table text ≡ some op → line table t (stateOf s p) ≡ passing (instruction (hereOf s p) op) (stateOf s p)
-    line-operation op f = line-word ∙ ap (λ (o : Option ℕ). choice t (hereOf s p) o (named directives text) true (stateOf s p)) f
+    -- by the code's answers to the word's text w
+    module _ {w : List ℕ} (h : w ≡ text) {o : Found} (i : o ≡ foundOf (operationNamed table w)) where
+      pub line-operation : {op : ℕ} → o ≡ found.Operation op → line table t (stateOf s p) ≡ passing (instruction (hereOf s p) op) (stateOf s p)
+      line-operation {op} j = line-word ∙ ap (λ (f : Option ℕ). choice t (hereOf s p) f (named directives text) true (stateOf s p)) (found-some (operationNamed table text) op (ap (λ (v : List ℕ). foundOf (operationNamed table v)) (sym h) ∙ sym i ∙ j))
 
-    pub line-directive : operationNamed table text ≡ none → {d : Directive} → directiveOf text ≡ d → line table t (stateOf s p) ≡ choice t (hereOf s p) none (directiveNumber d) true (stateOf s p)
-    line-directive f {d} g = line-word ∙ ap (λ (o : Option ℕ). choice t (hereOf s p) o (named directives text) true (stateOf s p)) f
-        ∙ ap (λ (o : Option ℕ). choice t (hereOf s p) none o true (stateOf s p)) (directive-is text ∙ ap directiveNumber g)
+      pub line-directive : o ≡ found.Nothing → {d e : Directive} → d ≡ directiveOf w → d ≡ e → line table t (stateOf s p) ≡ choice t (hereOf s p) none (directiveNumber e) true (stateOf s p)
+      line-directive j k q = line-word ∙ ap (λ (f : Option ℕ). choice t (hereOf s p) f (named directives text) true (stateOf s p)) (found-none (operationNamed table text) (ap (λ (v : List ℕ). foundOf (operationNamed table v)) (sym h) ∙ sym i ∙ j))
+          ∙ ap (λ (f : Option ℕ). choice t (hereOf s p) none f true (stateOf s p)) (directive-is text ∙ ap directiveNumber (ap directiveOf (sym h) ∙ sym k ∙ q))
 
   -- a token that is no word is 20
   no-word : (k v : ℕ) (w : List ℕ) → eqb k 97 ≡ false → wordOf (kindBy k v w) ≡ none
@@ -149,8 +153,40 @@ module _ (table s : List ℕ) (p : Parser) (t : Reader State (Unit {0})) where
   unfolding operationIn nameIn isWord
   line-else e = line-is ∙ rw (no-word (p .kind) (p .value) text e)
 
-  -- `times`, where n more may stand within one another
-  pub times-is : (n : ℕ) → times table (suc n) (stateOf s p) ≡ passing (inLine expression >> (skipLines >> content table (times table n) (hereOf s p))) (stateOf s p)
-  unfolding times _>>=_ inLine over ahead thence
-  times-is n = after-nil _
+-- `times`, where n more may stand within one another
+module _ (table s : List ℕ) (p : Parser) where
+  pub times-none : {n : ℕ} → n ≡ 0 → {r : Refusal} → r ≡ numbersOf (at-span 5 (p .«token_start») (p .pos)) → Denies whole s p (times table n) r
+  unfolding times
+  times-none {n} e h = rw e (lifts-denied (refuses-here 5 h))
 
+  module _ {n k : ℕ} (e : n ≡ suc k) where
+    times-is : times table n (stateOf s p) ≡ passing (inLine expression >> (skipLines >> content table (times table k) (hereOf s p))) (stateOf s p)
+    unfolding times _>>=_ inLine over ahead thence
+    times-is = rw e (after-nil _)
+
+    pub times-past : (i : ℕ) (l : List ℕ) {q : Parser} → Comes inside s p next q tt → Sofar whole s p (times table n) i l q (inLine expression >> (skipLines >> content table (times table k) (hereOf s p))) i l
+    unfolding passing _>>_
+    times-past i l h = comes (inLine next) (λ _. inLine expression >> (skipLines >> content table (times table k) (hereOf s p))) (becomes (starts whole s p (times table n) i l) times-is) (lifts-comes h)
+
+    pub times-denied : {r : Refusal} → Denies inside s p next r → Denies whole s p (times table n) r
+    times-denied h = denied (becomes (starts whole s p (times table n) 0 []) times-is) (word-denied _ h)
+
+-- the content of the `times` that was x
+module _ (table : List ℕ) (t : Reader State (Unit {0})) (x : Lexeme) {s : List ℕ} {p : Parser} where
+  content-by : {b : Bool} → (eqb (p .kind) 10 || eqb (p .kind) 0) ≡ b → (i : ℕ) (l : List ℕ)
+      → Sofar whole s p (content table t x) i l p ((if b then (refuse (at-span 34 (x .from) (x .to))) else (line table t)) >> write LT) i l
+  unfolding content
+  content-by e i l = becomes (comes (inLine kind) _ (starts whole s p (content table t x) i l) (lifts-comes is-kind)) (rw (end-is s p ∙ e))
+
+  pub content-none : (eqb (p .kind) 10 || eqb (p .kind) 0) ≡ true → {r : Refusal} → r ≡ numbersOf (at-span 34 (x .from) (x .to)) → Denies whole s p (content table t x) r
+  unfolding _>>_
+  content-none e h = called-denied _ _ (content-by e 0 []) (refuses (at-span 34 (x .from) (x .to)) h)
+
+  module _ (e : (eqb (p .kind) 10 || eqb (p .kind) 0) ≡ false) where
+    pub content-denied : {r : Refusal} → Denies whole s p (line table t) r → Denies whole s p (content table t x) r
+    unfolding _>>_
+    content-denied h = called-denied _ _ (content-by e 0 []) h
+
+    pub content-reads : {i w n : ℕ} {l l₁ l₂ : List ℕ} {q : Parser} → Gives whole s p (line table t) i l l₁ q w tt → Wrote w (encode LT) l₁ l₂ n → Gives whole s p (content table t x) i l l₂ q n tt
+    unfolding _>>_
+    content-reads h k = ends (called _ _ (content-by e _ _) h) (writes LT k)

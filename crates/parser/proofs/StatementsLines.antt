@@ -106,7 +106,7 @@ module _ (s : List ℕ) (p : Parser) where
   abbrev xs : List Lexeme
   xs = behind s (p .kind) (p .pos)
 
-  end-is : isLineEnd (x .kind) ≡ (eqb (p .kind) 10 || eqb (p .kind) 0)
+  pub end-is : isLineEnd (x .kind) ≡ (eqb (p .kind) 10 || eqb (p .kind) 0)
   end-is = line-end-is (p .kind) (p .value) (textOf s (p .«token_start») (p .pos))
 
   at-feed : eqb (p .kind) 10 ≡ true → isLineEnd (x .kind) ≡ true

@@ -1,3 +1,19 @@
+-- The cycle of calls {content, line, times}: each follows its reader statement by statement. The nesting left falls where `times` calls `content`:
+-- three times it is the measure of `times`, one more that of `line`, which calls it, and two more that of `content`, which calls `line`.
+-- Assumes nothing.
+use Prim.Native.Nat.{ℕ, suc, _+_, _*_, _-_, _<_}
+use mathlib.Core.Path.{_≡_, refl, sym, ap, subst, _∙_}
+use mathlib.Core.List.{[]}
+use native.Mathlib.Omega.{arith}
+use borrow.Author.Needs.{needs}
+use borrow.Author.Tests.{eq-eqb, ne-eqb}
+use Rattle.lexer.specs.Text.{bytes}
+use Rattle.rules.specs.Records.{field, fields, encode}
+use Rattle.rules.specs.Reader.{_>>_}
+use Rattle.rules.specs.Expressions.{expression}
+use Rattle.parser.specs.Views.{Passes, Reads}
+use Rattle.parser.proofs.Chain.{called, called-denied, comes, lifts, lifts-denied, refuses-here, reads-done, reads-refused, reads-by, reads-on}
+use Rattle.parser.proofs.StatementsForms.{line-operation, line-directive, line-else, times-none, times-past, times-denied, content-none, content-denied, content-reads}
 use Prim.Native.Nat.{ℕ, _<_}
 use borrow.Fn.Kinds.{In}
 use borrow.Fn.PlainCycle.{Measures, is, falls, and}
@@ -27,13 +43,13 @@ use Rattle.parser.proofs.statements.+content+line+times.{statement}
 use Rattle.parser.proofs.statements.+content+line+times.Tie.{close}
 
 abbrev μ-content : Measures 3 content-kinds.ps ℕ
-μ-content κs a = ?
+μ-content κs a = 3 * a .1 .1 .1 .1 .1 .1 .0 + 2
 
 abbrev μ-line : Measures 3 line-kinds.ps ℕ
-μ-line κs a = ?
+μ-line κs a = 3 * a .1 .1 .1 .1 .1 .0 + 1
 
 abbrev μ-times : Measures 3 times-kinds.ps ℕ
-μ-times κs a = ?
+μ-times κs a = 3 * a .1 .1 .1 .1 .1 .0
 
 abbrev content-at : ℕ → In 3 content-kinds.ps
 content-at t = and 3 content-kinds.ps (is 3 content-kinds.ps μ-content t) content.Pre
@@ -53,1150 +69,207 @@ times-at t = and 3 times-kinds.ps (is 3 times-kinds.ps μ-times t) times.Pre
 abbrev times-below : ℕ → In 3 times-kinds.ps
 times-below t = and 3 times-kinds.ps (falls 3 times-kinds.ps _<_ μ-times t) times.Pre
 
--- src/statements.rt:354:8
-content-is-line-end-requires : (t : ℕ) → content-lts.Need-is-line-end-requires (
-  is-line-end-reads.Asked,
-  is-line-end-reads.Learnt,
-  refuse-here-reads.Asked,
-  refuse-here-reads.Learnt,
-  line-below t,
-  line.Post,
-  put-span-reads.Asked,
-  put-span-reads.Learnt,
-) (content-at t) content.Post
-content-is-line-end-requires t c κs = ?
+abbrev content-calls : ℕ → content-lts.Claims
+content-calls t =
+    (is-line-end-reads.Asked, is-line-end-reads.Learnt, refuse-here-reads.Asked, refuse-here-reads.Learnt, line-below t, line.Post, put-span-reads.Asked, put-span-reads.Learnt)
 
--- src/statements.rt:355:32
-content-refuse-here-requires : (t : ℕ) → content-lts.Need-refuse-here-requires (
-  is-line-end-reads.Asked,
-  is-line-end-reads.Learnt,
-  refuse-here-reads.Asked,
-  refuse-here-reads.Learnt,
-  line-below t,
-  line.Post,
-  put-span-reads.Asked,
-  put-span-reads.Learnt,
-) (content-at t) content.Post
-content-refuse-here-requires t c κs = ?
+content-is-line-end-requires : (t : ℕ) → content-lts.Need-is-line-end-requires (content-calls t) (content-at t) content.Post
+content-is-line-end-requires t c κs = search needs
 
--- src/statements.rt:355:9
-content-returns : (t : ℕ) → content-lts.Need-returns (
-  is-line-end-reads.Asked,
-  is-line-end-reads.Learnt,
-  refuse-here-reads.Asked,
-  refuse-here-reads.Learnt,
-  line-below t,
-  line.Post,
-  put-span-reads.Asked,
-  put-span-reads.Learnt,
-) (content-at t) content.Post
-content-returns t c = ?
+content-refuse-here-requires : (t : ℕ) → content-lts.Need-refuse-here-requires (content-calls t) (content-at t) content.Post
+content-refuse-here-requires t c κs = search needs
 
--- src/statements.rt:357:11
-content-line-requires : (t : ℕ) → content-lts.Need-line-requires (
-  is-line-end-reads.Asked,
-  is-line-end-reads.Learnt,
-  refuse-here-reads.Asked,
-  refuse-here-reads.Learnt,
-  line-below t,
-  line.Post,
-  put-span-reads.Asked,
-  put-span-reads.Learnt,
-) (content-at t) content.Post
-content-line-requires t c κs = ?
+content-returns : (t : ℕ) → content-lts.Need-returns (content-calls t) (content-at t) content.Post
+content-returns t c = reads-refused (content-none _ _ _ (sym (c .before .before .is-line-end .ensures) ∙ c .before .if1 .taken) (c .refuse-here .ensures))
 
--- src/statements.rt:358:25
-content-enum-known-r : (t : ℕ) → content-lts.Need-enum-known-r (
-  is-line-end-reads.Asked,
-  is-line-end-reads.Learnt,
-  refuse-here-reads.Asked,
-  refuse-here-reads.Learnt,
-  line-below t,
-  line.Post,
-  put-span-reads.Asked,
-  put-span-reads.Learnt,
-) (content-at t) content.Post
-content-enum-known-r t c = ?
+content-line-requires : (t : ℕ) → content-lts.Need-line-requires (content-calls t) (content-at t) content.Post
+content-line-requires t c κs = (omega (arith, c .before .before .before .before .before .pre .0), c .before .before .before .before .before .pre .1)
 
--- src/statements.rt:359:22
-content-enum-known-q : (t : ℕ) → content-lts.Need-enum-known-q (
-  is-line-end-reads.Asked,
-  is-line-end-reads.Learnt,
-  refuse-here-reads.Asked,
-  refuse-here-reads.Learnt,
-  line-below t,
-  line.Post,
-  put-span-reads.Asked,
-  put-span-reads.Learnt,
-) (content-at t) content.Post
-content-enum-known-q t c = ?
+content-enum-known-r : (t : ℕ) → content-lts.Need-enum-known-r (content-calls t) (content-at t) content.Post
+content-enum-known-r t c = search needs
 
--- src/statements.rt:360:17
-content-put-span-requires : (t : ℕ) → content-lts.Need-put-span-requires (
-  is-line-end-reads.Asked,
-  is-line-end-reads.Learnt,
-  refuse-here-reads.Asked,
-  refuse-here-reads.Learnt,
-  line-below t,
-  line.Post,
-  put-span-reads.Asked,
-  put-span-reads.Learnt,
-) (content-at t) content.Post
-content-put-span-requires t c κs = ?
+content-enum-known-q : (t : ℕ) → content-lts.Need-enum-known-q (content-calls t) (content-at t) content.Post
+content-enum-known-q t c = search needs
 
--- src/statements.rt:341:1
-content-same-length : (t : ℕ) → content-lts.Need-same-length (
-  is-line-end-reads.Asked,
-  is-line-end-reads.Learnt,
-  refuse-here-reads.Asked,
-  refuse-here-reads.Learnt,
-  line-below t,
-  line.Post,
-  put-span-reads.Asked,
-  put-span-reads.Learnt,
-) (content-at t) content.Post
-content-same-length t c = ?
+content-put-span-requires : (t : ℕ) → content-lts.Need-put-span-requires (content-calls t) (content-at t) content.Post
+content-put-span-requires t c κs = search needs
 
--- src/statements.rt:341:1
-content-returns-2 : (t : ℕ) → content-lts.Need-returns-2 (
-  is-line-end-reads.Asked,
-  is-line-end-reads.Learnt,
-  refuse-here-reads.Asked,
-  refuse-here-reads.Learnt,
-  line-below t,
-  line.Post,
-  put-span-reads.Asked,
-  put-span-reads.Learnt,
-) (content-at t) content.Post
-content-returns-2 t c = ?
+content-same-length : (t : ℕ) → content-lts.Need-same-length (content-calls t) (content-at t) content.Post
+content-same-length t c = search needs
 
--- src/statements.rt:341:1
-content-same-length-2 : (t : ℕ) → content-lts.Need-same-length-2 (
-  is-line-end-reads.Asked,
-  is-line-end-reads.Learnt,
-  refuse-here-reads.Asked,
-  refuse-here-reads.Learnt,
-  line-below t,
-  line.Post,
-  put-span-reads.Asked,
-  put-span-reads.Learnt,
-) (content-at t) content.Post
-content-same-length-2 t c = ?
+content-returns-2 : (t : ℕ) → content-lts.Need-returns-2 (content-calls t) (content-at t) content.Post
+content-returns-2 t c = reads-refused (content-denied _ _ _ (sym (c .before .before .before .before .before .before .before .before .is-line-end .ensures) ∙ c .before .before .before .before .before .before .before .if1 .left) ((subst (Reads _ _ _ _ _ _ _) (c .before .r .given .1) (c .before .before .before .before .before .line .ensures)) .so))
 
--- src/statements.rt:341:1
-content-returns-3 : (t : ℕ) → content-lts.Need-returns-3 (
-  is-line-end-reads.Asked,
-  is-line-end-reads.Learnt,
-  refuse-here-reads.Asked,
-  refuse-here-reads.Learnt,
-  line-below t,
-  line.Post,
-  put-span-reads.Asked,
-  put-span-reads.Learnt,
-) (content-at t) content.Post
-content-returns-3 t c = ?
+content-same-length-2 : (t : ℕ) → content-lts.Need-same-length-2 (content-calls t) (content-at t) content.Post
+content-same-length-2 t c = search needs
 
--- src/statements.rt:305:32
-line-refuse-here-requires : (t : ℕ) → line-lts.Need-refuse-here-requires (
-  refuse-here-reads.Asked,
-  refuse-here-reads.Learnt,
-  text-reads.Asked,
-  text-reads.Learnt,
-  operation-reads.Asked,
-  operation-reads.Learnt,
-  instruction-reads.Asked,
-  instruction-reads.Learnt,
-  directive-of-reads.Asked,
-  directive-of-reads.Learnt,
-  constant-reads.Asked,
-  constant-reads.Learnt,
-  data-of-reads.Asked,
-  data-of-reads.Learnt,
-  times-below t,
-  times.Post,
-  label-reads.Asked,
-  label-reads.Learnt,
-) (line-at t) line.Post
-line-refuse-here-requires t c κs = ?
+content-returns-3 : (t : ℕ) → content-lts.Need-returns-3 (content-calls t) (content-at t) content.Post
+unfolding bytes encode
+content-returns-3 t c = reads-done (content-reads _ _ _ (sym (c .before .before .before .before .before .before .before .before .before .before .before .before .is-line-end .ensures) ∙ c .before .before .before .before .before .before .before .before .before .before .before .if1 .left) ((subst (Reads _ _ _ _ _ _ _) (c .before .before .before .before .before .q .given .1) (c .before .before .before .before .before .before .before .before .before .line .ensures)) .so) (c .before .before .put-span .ensures))
 
--- src/statements.rt:305:9
-line-returns : (t : ℕ) → line-lts.Need-returns (
-  refuse-here-reads.Asked,
-  refuse-here-reads.Learnt,
-  text-reads.Asked,
-  text-reads.Learnt,
-  operation-reads.Asked,
-  operation-reads.Learnt,
-  instruction-reads.Asked,
-  instruction-reads.Learnt,
-  directive-of-reads.Asked,
-  directive-of-reads.Learnt,
-  constant-reads.Asked,
-  constant-reads.Learnt,
-  data-of-reads.Asked,
-  data-of-reads.Learnt,
-  times-below t,
-  times.Post,
-  label-reads.Asked,
-  label-reads.Learnt,
-) (line-at t) line.Post
-line-returns t c = ?
+abbrev line-calls : ℕ → line-lts.Claims
+line-calls t =
+    (refuse-here-reads.Asked, refuse-here-reads.Learnt, text-reads.Asked, text-reads.Learnt, operation-reads.Asked, operation-reads.Learnt, instruction-reads.Asked, instruction-reads.Learnt, directive-of-reads.Asked, directive-of-reads.Learnt, constant-reads.Asked, constant-reads.Learnt, data-of-reads.Asked, data-of-reads.Learnt, times-below t, times.Post, label-reads.Asked, label-reads.Learnt)
 
--- src/statements.rt:307:9
-line-text-requires : (t : ℕ) → line-lts.Need-text-requires (
-  refuse-here-reads.Asked,
-  refuse-here-reads.Learnt,
-  text-reads.Asked,
-  text-reads.Learnt,
-  operation-reads.Asked,
-  operation-reads.Learnt,
-  instruction-reads.Asked,
-  instruction-reads.Learnt,
-  directive-of-reads.Asked,
-  directive-of-reads.Learnt,
-  constant-reads.Asked,
-  constant-reads.Learnt,
-  data-of-reads.Asked,
-  data-of-reads.Learnt,
-  times-below t,
-  times.Post,
-  label-reads.Asked,
-  label-reads.Learnt,
-) (line-at t) line.Post
-line-text-requires t c κs = ?
+line-refuse-here-requires : (t : ℕ) → line-lts.Need-refuse-here-requires (line-calls t) (line-at t) line.Post
+line-refuse-here-requires t c κs = search needs
 
--- src/statements.rt:308:11
-line-operation-requires : (t : ℕ) → line-lts.Need-operation-requires (
-  refuse-here-reads.Asked,
-  refuse-here-reads.Learnt,
-  text-reads.Asked,
-  text-reads.Learnt,
-  operation-reads.Asked,
-  operation-reads.Learnt,
-  instruction-reads.Asked,
-  instruction-reads.Learnt,
-  directive-of-reads.Asked,
-  directive-of-reads.Learnt,
-  constant-reads.Asked,
-  constant-reads.Learnt,
-  data-of-reads.Asked,
-  data-of-reads.Learnt,
-  times-below t,
-  times.Post,
-  label-reads.Asked,
-  label-reads.Learnt,
-) (line-at t) line.Post
-line-operation-requires t c κs = ?
+line-returns : (t : ℕ) → line-lts.Need-returns (line-calls t) (line-at t) line.Post
+line-returns t c = reads-by (line-else _ _ _ _ (ne-eqb _ _ (c .before .if1 .taken))) (reads-refused (lifts-denied (refuses-here 20 (c .refuse-here .ensures))))
 
--- src/statements.rt:309:26
-line-enum-known-operation : (t : ℕ) → line-lts.Need-enum-known-operation (
-  refuse-here-reads.Asked,
-  refuse-here-reads.Learnt,
-  text-reads.Asked,
-  text-reads.Learnt,
-  operation-reads.Asked,
-  operation-reads.Learnt,
-  instruction-reads.Asked,
-  instruction-reads.Learnt,
-  directive-of-reads.Asked,
-  directive-of-reads.Learnt,
-  constant-reads.Asked,
-  constant-reads.Learnt,
-  data-of-reads.Asked,
-  data-of-reads.Learnt,
-  times-below t,
-  times.Post,
-  label-reads.Asked,
-  label-reads.Learnt,
-) (line-at t) line.Post
-line-enum-known-operation t c = ?
+line-text-requires : (t : ℕ) → line-lts.Need-text-requires (line-calls t) (line-at t) line.Post
+line-text-requires t c κs = search needs
 
--- src/statements.rt:309:40
-line-instruction-requires : (t : ℕ) → line-lts.Need-instruction-requires (
-  refuse-here-reads.Asked,
-  refuse-here-reads.Learnt,
-  text-reads.Asked,
-  text-reads.Learnt,
-  operation-reads.Asked,
-  operation-reads.Learnt,
-  instruction-reads.Asked,
-  instruction-reads.Learnt,
-  directive-of-reads.Asked,
-  directive-of-reads.Learnt,
-  constant-reads.Asked,
-  constant-reads.Learnt,
-  data-of-reads.Asked,
-  data-of-reads.Learnt,
-  times-below t,
-  times.Post,
-  label-reads.Asked,
-  label-reads.Learnt,
-) (line-at t) line.Post
-line-instruction-requires t c κs = ?
+line-operation-requires : (t : ℕ) → line-lts.Need-operation-requires (line-calls t) (line-at t) line.Post
+line-operation-requires t c κs = c .before .before .before .before .before .pre .1 .1
 
--- src/statements.rt:310:33
-line-enum-told : (t : ℕ) → line-lts.Need-enum-told (
-  refuse-here-reads.Asked,
-  refuse-here-reads.Learnt,
-  text-reads.Asked,
-  text-reads.Learnt,
-  operation-reads.Asked,
-  operation-reads.Learnt,
-  instruction-reads.Asked,
-  instruction-reads.Learnt,
-  directive-of-reads.Asked,
-  directive-of-reads.Learnt,
-  constant-reads.Asked,
-  constant-reads.Learnt,
-  data-of-reads.Asked,
-  data-of-reads.Learnt,
-  times-below t,
-  times.Post,
-  label-reads.Asked,
-  label-reads.Learnt,
-) (line-at t) line.Post
-line-enum-told t c = ?
+line-enum-known-operation : (t : ℕ) → line-lts.Need-enum-known-operation (line-calls t) (line-at t) line.Post
+line-enum-known-operation t c = search needs
 
--- src/statements.rt:310:33
-line-directive-of-requires : (t : ℕ) → line-lts.Need-directive-of-requires (
-  refuse-here-reads.Asked,
-  refuse-here-reads.Learnt,
-  text-reads.Asked,
-  text-reads.Learnt,
-  operation-reads.Asked,
-  operation-reads.Learnt,
-  instruction-reads.Asked,
-  instruction-reads.Learnt,
-  directive-of-reads.Asked,
-  directive-of-reads.Learnt,
-  constant-reads.Asked,
-  constant-reads.Learnt,
-  data-of-reads.Asked,
-  data-of-reads.Learnt,
-  times-below t,
-  times.Post,
-  label-reads.Asked,
-  label-reads.Learnt,
-) (line-at t) line.Post
-line-directive-of-requires t c κs = ?
+line-instruction-requires : (t : ℕ) → line-lts.Need-instruction-requires (line-calls t) (line-at t) line.Post
+line-instruction-requires t c κs = (c .before .before .before .before .before .before .before .before .before .before .pre .1 .0, (c .before .before .before .before .before .before .if1 .left))
 
--- src/statements.rt:311:45
-line-enum-told-2 : (t : ℕ) → line-lts.Need-enum-told-2 (
-  refuse-here-reads.Asked,
-  refuse-here-reads.Learnt,
-  text-reads.Asked,
-  text-reads.Learnt,
-  operation-reads.Asked,
-  operation-reads.Learnt,
-  instruction-reads.Asked,
-  instruction-reads.Learnt,
-  directive-of-reads.Asked,
-  directive-of-reads.Learnt,
-  constant-reads.Asked,
-  constant-reads.Learnt,
-  data-of-reads.Asked,
-  data-of-reads.Learnt,
-  times-below t,
-  times.Post,
-  label-reads.Asked,
-  label-reads.Learnt,
-) (line-at t) line.Post
-line-enum-told-2 t c = ?
+line-enum-told : (t : ℕ) → line-lts.Need-enum-told (line-calls t) (line-at t) line.Post
+line-enum-told t c = search needs
 
--- src/statements.rt:311:31
-line-constant-requires : (t : ℕ) → line-lts.Need-constant-requires (
-  refuse-here-reads.Asked,
-  refuse-here-reads.Learnt,
-  text-reads.Asked,
-  text-reads.Learnt,
-  operation-reads.Asked,
-  operation-reads.Learnt,
-  instruction-reads.Asked,
-  instruction-reads.Learnt,
-  directive-of-reads.Asked,
-  directive-of-reads.Learnt,
-  constant-reads.Asked,
-  constant-reads.Learnt,
-  data-of-reads.Asked,
-  data-of-reads.Learnt,
-  times-below t,
-  times.Post,
-  label-reads.Asked,
-  label-reads.Learnt,
-) (line-at t) line.Post
-line-constant-requires t c κs = ?
+line-directive-of-requires : (t : ℕ) → line-lts.Need-directive-of-requires (line-calls t) (line-at t) line.Post
+line-directive-of-requires t c κs = search needs
 
--- src/statements.rt:312:43
-line-enum-told-3 : (t : ℕ) → line-lts.Need-enum-told-3 (
-  refuse-here-reads.Asked,
-  refuse-here-reads.Learnt,
-  text-reads.Asked,
-  text-reads.Learnt,
-  operation-reads.Asked,
-  operation-reads.Learnt,
-  instruction-reads.Asked,
-  instruction-reads.Learnt,
-  directive-of-reads.Asked,
-  directive-of-reads.Learnt,
-  constant-reads.Asked,
-  constant-reads.Learnt,
-  data-of-reads.Asked,
-  data-of-reads.Learnt,
-  times-below t,
-  times.Post,
-  label-reads.Asked,
-  label-reads.Learnt,
-) (line-at t) line.Post
-line-enum-told-3 t c = ?
+line-enum-told-2 : (t : ℕ) → line-lts.Need-enum-told-2 (line-calls t) (line-at t) line.Post
+line-enum-told-2 t c = search needs
 
--- src/statements.rt:312:30
-line-data-of-requires : (t : ℕ) → line-lts.Need-data-of-requires (
-  refuse-here-reads.Asked,
-  refuse-here-reads.Learnt,
-  text-reads.Asked,
-  text-reads.Learnt,
-  operation-reads.Asked,
-  operation-reads.Learnt,
-  instruction-reads.Asked,
-  instruction-reads.Learnt,
-  directive-of-reads.Asked,
-  directive-of-reads.Learnt,
-  constant-reads.Asked,
-  constant-reads.Learnt,
-  data-of-reads.Asked,
-  data-of-reads.Learnt,
-  times-below t,
-  times.Post,
-  label-reads.Asked,
-  label-reads.Learnt,
-) (line-at t) line.Post
-line-data-of-requires t c κs = ?
+line-constant-requires : (t : ℕ) → line-lts.Need-constant-requires (line-calls t) (line-at t) line.Post
+line-constant-requires t c κs = (c .before .before .before .before .before .before .before .before .before .before .before .before .pre .1 .0, (c .before .before .before .before .before .before .before .before .if1 .left))
 
--- src/statements.rt:313:43
-line-enum-told-4 : (t : ℕ) → line-lts.Need-enum-told-4 (
-  refuse-here-reads.Asked,
-  refuse-here-reads.Learnt,
-  text-reads.Asked,
-  text-reads.Learnt,
-  operation-reads.Asked,
-  operation-reads.Learnt,
-  instruction-reads.Asked,
-  instruction-reads.Learnt,
-  directive-of-reads.Asked,
-  directive-of-reads.Learnt,
-  constant-reads.Asked,
-  constant-reads.Learnt,
-  data-of-reads.Asked,
-  data-of-reads.Learnt,
-  times-below t,
-  times.Post,
-  label-reads.Asked,
-  label-reads.Learnt,
-) (line-at t) line.Post
-line-enum-told-4 t c = ?
+line-enum-told-3 : (t : ℕ) → line-lts.Need-enum-told-3 (line-calls t) (line-at t) line.Post
+line-enum-told-3 t c = search needs
 
--- src/statements.rt:313:30
-line-data-of-requires-2 : (t : ℕ) → line-lts.Need-data-of-requires-2 (
-  refuse-here-reads.Asked,
-  refuse-here-reads.Learnt,
-  text-reads.Asked,
-  text-reads.Learnt,
-  operation-reads.Asked,
-  operation-reads.Learnt,
-  instruction-reads.Asked,
-  instruction-reads.Learnt,
-  directive-of-reads.Asked,
-  directive-of-reads.Learnt,
-  constant-reads.Asked,
-  constant-reads.Learnt,
-  data-of-reads.Asked,
-  data-of-reads.Learnt,
-  times-below t,
-  times.Post,
-  label-reads.Asked,
-  label-reads.Learnt,
-) (line-at t) line.Post
-line-data-of-requires-2 t c κs = ?
+line-data-of-requires : (t : ℕ) → line-lts.Need-data-of-requires (line-calls t) (line-at t) line.Post
+line-data-of-requires t c κs = (c .before .before .before .before .before .before .before .before .before .before .before .before .pre .1 .0, (c .before .before .before .before .before .before .before .before .if1 .left), omega arith, omega arith)
 
--- src/statements.rt:314:51
-line-enum-told-5 : (t : ℕ) → line-lts.Need-enum-told-5 (
-  refuse-here-reads.Asked,
-  refuse-here-reads.Learnt,
-  text-reads.Asked,
-  text-reads.Learnt,
-  operation-reads.Asked,
-  operation-reads.Learnt,
-  instruction-reads.Asked,
-  instruction-reads.Learnt,
-  directive-of-reads.Asked,
-  directive-of-reads.Learnt,
-  constant-reads.Asked,
-  constant-reads.Learnt,
-  data-of-reads.Asked,
-  data-of-reads.Learnt,
-  times-below t,
-  times.Post,
-  label-reads.Asked,
-  label-reads.Learnt,
-) (line-at t) line.Post
-line-enum-told-5 t c = ?
+line-enum-told-4 : (t : ℕ) → line-lts.Need-enum-told-4 (line-calls t) (line-at t) line.Post
+line-enum-told-4 t c = search needs
 
--- src/statements.rt:314:33
-line-times-requires : (t : ℕ) → line-lts.Need-times-requires (
-  refuse-here-reads.Asked,
-  refuse-here-reads.Learnt,
-  text-reads.Asked,
-  text-reads.Learnt,
-  operation-reads.Asked,
-  operation-reads.Learnt,
-  instruction-reads.Asked,
-  instruction-reads.Learnt,
-  directive-of-reads.Asked,
-  directive-of-reads.Learnt,
-  constant-reads.Asked,
-  constant-reads.Learnt,
-  data-of-reads.Asked,
-  data-of-reads.Learnt,
-  times-below t,
-  times.Post,
-  label-reads.Asked,
-  label-reads.Learnt,
-) (line-at t) line.Post
-line-times-requires t c κs = ?
+line-data-of-requires-2 : (t : ℕ) → line-lts.Need-data-of-requires-2 (line-calls t) (line-at t) line.Post
+line-data-of-requires-2 t c κs = (c .before .before .before .before .before .before .before .before .before .before .before .before .pre .1 .0, (c .before .before .before .before .before .before .before .before .if1 .left), omega arith, omega arith)
 
--- src/statements.rt:315:44
-line-enum-told-6 : (t : ℕ) → line-lts.Need-enum-told-6 (
-  refuse-here-reads.Asked,
-  refuse-here-reads.Learnt,
-  text-reads.Asked,
-  text-reads.Learnt,
-  operation-reads.Asked,
-  operation-reads.Learnt,
-  instruction-reads.Asked,
-  instruction-reads.Learnt,
-  directive-of-reads.Asked,
-  directive-of-reads.Learnt,
-  constant-reads.Asked,
-  constant-reads.Learnt,
-  data-of-reads.Asked,
-  data-of-reads.Learnt,
-  times-below t,
-  times.Post,
-  label-reads.Asked,
-  label-reads.Learnt,
-) (line-at t) line.Post
-line-enum-told-6 t c = ?
+line-enum-told-5 : (t : ℕ) → line-lts.Need-enum-told-5 (line-calls t) (line-at t) line.Post
+line-enum-told-5 t c = search needs
 
--- src/statements.rt:315:33
-line-label-requires : (t : ℕ) → line-lts.Need-label-requires (
-  refuse-here-reads.Asked,
-  refuse-here-reads.Learnt,
-  text-reads.Asked,
-  text-reads.Learnt,
-  operation-reads.Asked,
-  operation-reads.Learnt,
-  instruction-reads.Asked,
-  instruction-reads.Learnt,
-  directive-of-reads.Asked,
-  directive-of-reads.Learnt,
-  constant-reads.Asked,
-  constant-reads.Learnt,
-  data-of-reads.Asked,
-  data-of-reads.Learnt,
-  times-below t,
-  times.Post,
-  label-reads.Asked,
-  label-reads.Learnt,
-) (line-at t) line.Post
-line-label-requires t c κs = ?
+line-times-requires : (t : ℕ) → line-lts.Need-times-requires (line-calls t) (line-at t) line.Post
+line-times-requires t c κs = (omega (arith, c .before .before .before .before .before .before .before .before .before .before .before .before .pre .0), (c .before .before .before .before .before .before .before .before .before .before .before .before .pre .1 .0, c .before .before .before .before .before .before .before .before .before .before .before .before .pre .1 .1, (c .before .before .before .before .before .before .before .before .if1 .left)))
 
--- src/statements.rt:300:1
-line-same-length : (t : ℕ) → line-lts.Need-same-length (
-  refuse-here-reads.Asked,
-  refuse-here-reads.Learnt,
-  text-reads.Asked,
-  text-reads.Learnt,
-  operation-reads.Asked,
-  operation-reads.Learnt,
-  instruction-reads.Asked,
-  instruction-reads.Learnt,
-  directive-of-reads.Asked,
-  directive-of-reads.Learnt,
-  constant-reads.Asked,
-  constant-reads.Learnt,
-  data-of-reads.Asked,
-  data-of-reads.Learnt,
-  times-below t,
-  times.Post,
-  label-reads.Asked,
-  label-reads.Learnt,
-) (line-at t) line.Post
-line-same-length t c = ?
+line-enum-told-6 : (t : ℕ) → line-lts.Need-enum-told-6 (line-calls t) (line-at t) line.Post
+line-enum-told-6 t c = search needs
 
--- src/statements.rt:300:1
-line-returns-2 : (t : ℕ) → line-lts.Need-returns-2 (
-  refuse-here-reads.Asked,
-  refuse-here-reads.Learnt,
-  text-reads.Asked,
-  text-reads.Learnt,
-  operation-reads.Asked,
-  operation-reads.Learnt,
-  instruction-reads.Asked,
-  instruction-reads.Learnt,
-  directive-of-reads.Asked,
-  directive-of-reads.Learnt,
-  constant-reads.Asked,
-  constant-reads.Learnt,
-  data-of-reads.Asked,
-  data-of-reads.Learnt,
-  times-below t,
-  times.Post,
-  label-reads.Asked,
-  label-reads.Learnt,
-) (line-at t) line.Post
-line-returns-2 t c = ?
+line-label-requires : (t : ℕ) → line-lts.Need-label-requires (line-calls t) (line-at t) line.Post
+line-label-requires t c κs = (c .before .before .before .before .before .before .before .before .before .before .before .before .pre .1 .0, (c .before .before .before .before .before .before .before .before .if1 .left))
 
--- src/statements.rt:300:1
-line-same-length-2 : (t : ℕ) → line-lts.Need-same-length-2 (
-  refuse-here-reads.Asked,
-  refuse-here-reads.Learnt,
-  text-reads.Asked,
-  text-reads.Learnt,
-  operation-reads.Asked,
-  operation-reads.Learnt,
-  instruction-reads.Asked,
-  instruction-reads.Learnt,
-  directive-of-reads.Asked,
-  directive-of-reads.Learnt,
-  constant-reads.Asked,
-  constant-reads.Learnt,
-  data-of-reads.Asked,
-  data-of-reads.Learnt,
-  times-below t,
-  times.Post,
-  label-reads.Asked,
-  label-reads.Learnt,
-) (line-at t) line.Post
-line-same-length-2 t c = ?
+line-same-length : (t : ℕ) → line-lts.Need-same-length (line-calls t) (line-at t) line.Post
+line-same-length t c = search needs
 
--- src/statements.rt:300:1
-line-returns-3 : (t : ℕ) → line-lts.Need-returns-3 (
-  refuse-here-reads.Asked,
-  refuse-here-reads.Learnt,
-  text-reads.Asked,
-  text-reads.Learnt,
-  operation-reads.Asked,
-  operation-reads.Learnt,
-  instruction-reads.Asked,
-  instruction-reads.Learnt,
-  directive-of-reads.Asked,
-  directive-of-reads.Learnt,
-  constant-reads.Asked,
-  constant-reads.Learnt,
-  data-of-reads.Asked,
-  data-of-reads.Learnt,
-  times-below t,
-  times.Post,
-  label-reads.Asked,
-  label-reads.Learnt,
-) (line-at t) line.Post
-line-returns-3 t c = ?
+line-returns-2 : (t : ℕ) → line-lts.Need-returns-2 (line-calls t) (line-at t) line.Post
+line-returns-2 t c = reads-by (line-operation _ _ _ _ (c .before .before .before .before .before .before .before .before .before .if1 .left) (c .before .before .before .before .before .before .before .before .text .ensures) (c .before .before .before .before .before .before .before .operation .ensures) (c .before .before .before .before .before .operation2 .given .1)) (c .before .before .instruction .ensures)
 
--- src/statements.rt:300:1
-line-same-length-3 : (t : ℕ) → line-lts.Need-same-length-3 (
-  refuse-here-reads.Asked,
-  refuse-here-reads.Learnt,
-  text-reads.Asked,
-  text-reads.Learnt,
-  operation-reads.Asked,
-  operation-reads.Learnt,
-  instruction-reads.Asked,
-  instruction-reads.Learnt,
-  directive-of-reads.Asked,
-  directive-of-reads.Learnt,
-  constant-reads.Asked,
-  constant-reads.Learnt,
-  data-of-reads.Asked,
-  data-of-reads.Learnt,
-  times-below t,
-  times.Post,
-  label-reads.Asked,
-  label-reads.Learnt,
-) (line-at t) line.Post
-line-same-length-3 t c = ?
+line-same-length-2 : (t : ℕ) → line-lts.Need-same-length-2 (line-calls t) (line-at t) line.Post
+line-same-length-2 t c = search needs
 
--- src/statements.rt:300:1
-line-returns-4 : (t : ℕ) → line-lts.Need-returns-4 (
-  refuse-here-reads.Asked,
-  refuse-here-reads.Learnt,
-  text-reads.Asked,
-  text-reads.Learnt,
-  operation-reads.Asked,
-  operation-reads.Learnt,
-  instruction-reads.Asked,
-  instruction-reads.Learnt,
-  directive-of-reads.Asked,
-  directive-of-reads.Learnt,
-  constant-reads.Asked,
-  constant-reads.Learnt,
-  data-of-reads.Asked,
-  data-of-reads.Learnt,
-  times-below t,
-  times.Post,
-  label-reads.Asked,
-  label-reads.Learnt,
-) (line-at t) line.Post
-line-returns-4 t c = ?
+line-returns-3 : (t : ℕ) → line-lts.Need-returns-3 (line-calls t) (line-at t) line.Post
+line-returns-3 t c = reads-by (line-directive _ _ _ _ (c .before .before .before .before .before .before .before .before .before .before .before .if1 .left) (c .before .before .before .before .before .before .before .before .before .before .text .ensures) (c .before .before .before .before .before .before .before .before .before .operation .ensures) (c .before .before .before .before .before .before .before .enum-told .given .1) (c .before .before .before .before .before .before .directive-of .ensures) (c .before .before .before .before .enum-told2 .given .1)) (c .before .before .constant .ensures)
 
--- src/statements.rt:300:1
-line-same-length-4 : (t : ℕ) → line-lts.Need-same-length-4 (
-  refuse-here-reads.Asked,
-  refuse-here-reads.Learnt,
-  text-reads.Asked,
-  text-reads.Learnt,
-  operation-reads.Asked,
-  operation-reads.Learnt,
-  instruction-reads.Asked,
-  instruction-reads.Learnt,
-  directive-of-reads.Asked,
-  directive-of-reads.Learnt,
-  constant-reads.Asked,
-  constant-reads.Learnt,
-  data-of-reads.Asked,
-  data-of-reads.Learnt,
-  times-below t,
-  times.Post,
-  label-reads.Asked,
-  label-reads.Learnt,
-) (line-at t) line.Post
-line-same-length-4 t c = ?
+line-same-length-3 : (t : ℕ) → line-lts.Need-same-length-3 (line-calls t) (line-at t) line.Post
+line-same-length-3 t c = search needs
 
--- src/statements.rt:300:1
-line-returns-5 : (t : ℕ) → line-lts.Need-returns-5 (
-  refuse-here-reads.Asked,
-  refuse-here-reads.Learnt,
-  text-reads.Asked,
-  text-reads.Learnt,
-  operation-reads.Asked,
-  operation-reads.Learnt,
-  instruction-reads.Asked,
-  instruction-reads.Learnt,
-  directive-of-reads.Asked,
-  directive-of-reads.Learnt,
-  constant-reads.Asked,
-  constant-reads.Learnt,
-  data-of-reads.Asked,
-  data-of-reads.Learnt,
-  times-below t,
-  times.Post,
-  label-reads.Asked,
-  label-reads.Learnt,
-) (line-at t) line.Post
-line-returns-5 t c = ?
+line-returns-4 : (t : ℕ) → line-lts.Need-returns-4 (line-calls t) (line-at t) line.Post
+line-returns-4 t c = reads-by (line-directive _ _ _ _ (c .before .before .before .before .before .before .before .before .before .before .before .if1 .left) (c .before .before .before .before .before .before .before .before .before .before .text .ensures) (c .before .before .before .before .before .before .before .before .before .operation .ensures) (c .before .before .before .before .before .before .before .enum-told .given .1) (c .before .before .before .before .before .before .directive-of .ensures) (c .before .before .before .before .enum-told3 .given .1)) (c .before .before .data-of .ensures)
 
--- src/statements.rt:300:1
-line-same-length-5 : (t : ℕ) → line-lts.Need-same-length-5 (
-  refuse-here-reads.Asked,
-  refuse-here-reads.Learnt,
-  text-reads.Asked,
-  text-reads.Learnt,
-  operation-reads.Asked,
-  operation-reads.Learnt,
-  instruction-reads.Asked,
-  instruction-reads.Learnt,
-  directive-of-reads.Asked,
-  directive-of-reads.Learnt,
-  constant-reads.Asked,
-  constant-reads.Learnt,
-  data-of-reads.Asked,
-  data-of-reads.Learnt,
-  times-below t,
-  times.Post,
-  label-reads.Asked,
-  label-reads.Learnt,
-) (line-at t) line.Post
-line-same-length-5 t c = ?
+line-same-length-4 : (t : ℕ) → line-lts.Need-same-length-4 (line-calls t) (line-at t) line.Post
+line-same-length-4 t c = search needs
 
--- src/statements.rt:300:1
-line-returns-6 : (t : ℕ) → line-lts.Need-returns-6 (
-  refuse-here-reads.Asked,
-  refuse-here-reads.Learnt,
-  text-reads.Asked,
-  text-reads.Learnt,
-  operation-reads.Asked,
-  operation-reads.Learnt,
-  instruction-reads.Asked,
-  instruction-reads.Learnt,
-  directive-of-reads.Asked,
-  directive-of-reads.Learnt,
-  constant-reads.Asked,
-  constant-reads.Learnt,
-  data-of-reads.Asked,
-  data-of-reads.Learnt,
-  times-below t,
-  times.Post,
-  label-reads.Asked,
-  label-reads.Learnt,
-) (line-at t) line.Post
-line-returns-6 t c = ?
+line-returns-5 : (t : ℕ) → line-lts.Need-returns-5 (line-calls t) (line-at t) line.Post
+line-returns-5 t c = reads-by (line-directive _ _ _ _ (c .before .before .before .before .before .before .before .before .before .before .before .if1 .left) (c .before .before .before .before .before .before .before .before .before .before .text .ensures) (c .before .before .before .before .before .before .before .before .before .operation .ensures) (c .before .before .before .before .before .before .before .enum-told .given .1) (c .before .before .before .before .before .before .directive-of .ensures) (c .before .before .before .before .enum-told4 .given .1)) (c .before .before .data-of2 .ensures)
 
--- src/statements.rt:300:1
-line-same-length-6 : (t : ℕ) → line-lts.Need-same-length-6 (
-  refuse-here-reads.Asked,
-  refuse-here-reads.Learnt,
-  text-reads.Asked,
-  text-reads.Learnt,
-  operation-reads.Asked,
-  operation-reads.Learnt,
-  instruction-reads.Asked,
-  instruction-reads.Learnt,
-  directive-of-reads.Asked,
-  directive-of-reads.Learnt,
-  constant-reads.Asked,
-  constant-reads.Learnt,
-  data-of-reads.Asked,
-  data-of-reads.Learnt,
-  times-below t,
-  times.Post,
-  label-reads.Asked,
-  label-reads.Learnt,
-) (line-at t) line.Post
-line-same-length-6 t c = ?
+line-same-length-5 : (t : ℕ) → line-lts.Need-same-length-5 (line-calls t) (line-at t) line.Post
+line-same-length-5 t c = search needs
 
--- src/statements.rt:300:1
-line-returns-7 : (t : ℕ) → line-lts.Need-returns-7 (
-  refuse-here-reads.Asked,
-  refuse-here-reads.Learnt,
-  text-reads.Asked,
-  text-reads.Learnt,
-  operation-reads.Asked,
-  operation-reads.Learnt,
-  instruction-reads.Asked,
-  instruction-reads.Learnt,
-  directive-of-reads.Asked,
-  directive-of-reads.Learnt,
-  constant-reads.Asked,
-  constant-reads.Learnt,
-  data-of-reads.Asked,
-  data-of-reads.Learnt,
-  times-below t,
-  times.Post,
-  label-reads.Asked,
-  label-reads.Learnt,
-) (line-at t) line.Post
-line-returns-7 t c = ?
+line-returns-6 : (t : ℕ) → line-lts.Need-returns-6 (line-calls t) (line-at t) line.Post
+line-returns-6 t c = reads-by (line-directive _ _ _ _ (c .before .before .before .before .before .before .before .before .before .before .before .if1 .left) (c .before .before .before .before .before .before .before .before .before .before .text .ensures) (c .before .before .before .before .before .before .before .before .before .operation .ensures) (c .before .before .before .before .before .before .before .enum-told .given .1) (c .before .before .before .before .before .before .directive-of .ensures) (c .before .before .before .before .enum-told5 .given .1)) (c .before .before .times .ensures)
 
--- src/statements.rt:326:32
-times-refuse-here-requires : (t : ℕ) → times-lts.Need-refuse-here-requires (
-  refuse-here-reads.Asked,
-  refuse-here-reads.Learnt,
-  next-reads.Asked,
-  next-reads.Learnt,
-  expression-reads.Asked,
-  expression-reads.Learnt,
-  skip-lines-reads.Asked,
-  skip-lines-reads.Learnt,
-  content-below t,
-  content.Post,
-) (times-at t) times.Post
-times-refuse-here-requires t c κs = ?
+line-same-length-6 : (t : ℕ) → line-lts.Need-same-length-6 (line-calls t) (line-at t) line.Post
+line-same-length-6 t c = search needs
 
--- src/statements.rt:326:9
-times-returns : (t : ℕ) → times-lts.Need-returns (
-  refuse-here-reads.Asked,
-  refuse-here-reads.Learnt,
-  next-reads.Asked,
-  next-reads.Learnt,
-  expression-reads.Asked,
-  expression-reads.Learnt,
-  skip-lines-reads.Asked,
-  skip-lines-reads.Learnt,
-  content-below t,
-  content.Post,
-) (times-at t) times.Post
-times-returns t c = ?
+line-returns-7 : (t : ℕ) → line-lts.Need-returns-7 (line-calls t) (line-at t) line.Post
+line-returns-7 t c = reads-by (line-directive _ _ _ _ (c .before .before .before .before .before .before .before .before .before .before .before .if1 .left) (c .before .before .before .before .before .before .before .before .before .before .text .ensures) (c .before .before .before .before .before .before .before .before .before .operation .ensures) (c .before .before .before .before .before .before .before .enum-told .given .1) (c .before .before .before .before .before .before .directive-of .ensures) (c .before .before .before .before .enum-told6 .given .1)) (c .before .before .label .ensures)
 
--- src/statements.rt:328:11
-times-next-requires : (t : ℕ) → times-lts.Need-next-requires (
-  refuse-here-reads.Asked,
-  refuse-here-reads.Learnt,
-  next-reads.Asked,
-  next-reads.Learnt,
-  expression-reads.Asked,
-  expression-reads.Learnt,
-  skip-lines-reads.Asked,
-  skip-lines-reads.Learnt,
-  content-below t,
-  content.Post,
-) (times-at t) times.Post
-times-next-requires t c κs = ?
+abbrev times-calls : ℕ → times-lts.Claims
+times-calls t =
+    (refuse-here-reads.Asked, refuse-here-reads.Learnt, next-reads.Asked, next-reads.Learnt, expression-reads.Asked, expression-reads.Learnt, skip-lines-reads.Asked, skip-lines-reads.Learnt, content-below t, content.Post)
 
--- src/statements.rt:329:23
-times-enum-known-r : (t : ℕ) → times-lts.Need-enum-known-r (
-  refuse-here-reads.Asked,
-  refuse-here-reads.Learnt,
-  next-reads.Asked,
-  next-reads.Learnt,
-  expression-reads.Asked,
-  expression-reads.Learnt,
-  skip-lines-reads.Asked,
-  skip-lines-reads.Learnt,
-  content-below t,
-  content.Post,
-) (times-at t) times.Post
-times-enum-known-r t c = ?
+times-refuse-here-requires : (t : ℕ) → times-lts.Need-refuse-here-requires (times-calls t) (times-at t) times.Post
+times-refuse-here-requires t c κs = search needs
 
--- src/statements.rt:330:21
-times-enum-known-q : (t : ℕ) → times-lts.Need-enum-known-q (
-  refuse-here-reads.Asked,
-  refuse-here-reads.Learnt,
-  next-reads.Asked,
-  next-reads.Learnt,
-  expression-reads.Asked,
-  expression-reads.Learnt,
-  skip-lines-reads.Asked,
-  skip-lines-reads.Learnt,
-  content-below t,
-  content.Post,
-) (times-at t) times.Post
-times-enum-known-q t c = ?
+times-returns : (t : ℕ) → times-lts.Need-returns (times-calls t) (times-at t) times.Post
+times-returns t c = reads-refused (times-none _ _ _ (c .before .if1 .taken) (c .refuse-here .ensures))
 
--- src/statements.rt:330:33
-times-expression-requires : (t : ℕ) → times-lts.Need-expression-requires (
-  refuse-here-reads.Asked,
-  refuse-here-reads.Learnt,
-  next-reads.Asked,
-  next-reads.Learnt,
-  expression-reads.Asked,
-  expression-reads.Learnt,
-  skip-lines-reads.Asked,
-  skip-lines-reads.Learnt,
-  content-below t,
-  content.Post,
-) (times-at t) times.Post
-times-expression-requires t c κs = ?
+times-next-requires : (t : ℕ) → times-lts.Need-next-requires (times-calls t) (times-at t) times.Post
+times-next-requires t c κs = (c .before .before .before .pre .1 .0, rw (c .before .before .before .pre .1 .2), rw (c .before .before .before .pre .1 .2))
 
--- src/statements.rt:331:29
-times-enum-known-r-2 : (t : ℕ) → times-lts.Need-enum-known-r-2 (
-  refuse-here-reads.Asked,
-  refuse-here-reads.Learnt,
-  next-reads.Asked,
-  next-reads.Learnt,
-  expression-reads.Asked,
-  expression-reads.Learnt,
-  skip-lines-reads.Asked,
-  skip-lines-reads.Learnt,
-  content-below t,
-  content.Post,
-) (times-at t) times.Post
-times-enum-known-r-2 t c = ?
+times-enum-known-r : (t : ℕ) → times-lts.Need-enum-known-r (times-calls t) (times-at t) times.Post
+times-enum-known-r t c = search needs
 
--- src/statements.rt:332:26
-times-enum-known-end : (t : ℕ) → times-lts.Need-enum-known-end (
-  refuse-here-reads.Asked,
-  refuse-here-reads.Learnt,
-  next-reads.Asked,
-  next-reads.Learnt,
-  expression-reads.Asked,
-  expression-reads.Learnt,
-  skip-lines-reads.Asked,
-  skip-lines-reads.Learnt,
-  content-below t,
-  content.Post,
-) (times-at t) times.Post
-times-enum-known-end t c = ?
+times-enum-known-q : (t : ℕ) → times-lts.Need-enum-known-q (times-calls t) (times-at t) times.Post
+times-enum-known-q t c = search needs
 
--- src/statements.rt:332:43
-times-skip-lines-requires : (t : ℕ) → times-lts.Need-skip-lines-requires (
-  refuse-here-reads.Asked,
-  refuse-here-reads.Learnt,
-  next-reads.Asked,
-  next-reads.Learnt,
-  expression-reads.Asked,
-  expression-reads.Learnt,
-  skip-lines-reads.Asked,
-  skip-lines-reads.Learnt,
-  content-below t,
-  content.Post,
-) (times-at t) times.Post
-times-skip-lines-requires t c κs = ?
+times-expression-requires : (t : ℕ) → times-lts.Need-expression-requires (times-calls t) (times-at t) times.Post
+times-expression-requires t c κs = c .before .before .before .before .before .before .before .before .pre .1 .0
 
--- src/statements.rt:333:31
-times-enum-known-r-3 : (t : ℕ) → times-lts.Need-enum-known-r-3 (
-  refuse-here-reads.Asked,
-  refuse-here-reads.Learnt,
-  next-reads.Asked,
-  next-reads.Learnt,
-  expression-reads.Asked,
-  expression-reads.Learnt,
-  skip-lines-reads.Asked,
-  skip-lines-reads.Learnt,
-  content-below t,
-  content.Post,
-) (times-at t) times.Post
-times-enum-known-r-3 t c = ?
+times-enum-known-r-2 : (t : ℕ) → times-lts.Need-enum-known-r-2 (times-calls t) (times-at t) times.Post
+times-enum-known-r-2 t c = search needs
 
--- src/statements.rt:334:29
-times-enum-known-below : (t : ℕ) → times-lts.Need-enum-known-below (
-  refuse-here-reads.Asked,
-  refuse-here-reads.Learnt,
-  next-reads.Asked,
-  next-reads.Learnt,
-  expression-reads.Asked,
-  expression-reads.Learnt,
-  skip-lines-reads.Asked,
-  skip-lines-reads.Learnt,
-  content-below t,
-  content.Post,
-) (times-at t) times.Post
-times-enum-known-below t c = ?
+times-enum-known-end : (t : ℕ) → times-lts.Need-enum-known-end (times-calls t) (times-at t) times.Post
+times-enum-known-end t c = search needs
 
--- src/statements.rt:334:77
-times-sub-content : (t : ℕ) → times-lts.Need-sub-content (
-  refuse-here-reads.Asked,
-  refuse-here-reads.Learnt,
-  next-reads.Asked,
-  next-reads.Learnt,
-  expression-reads.Asked,
-  expression-reads.Learnt,
-  skip-lines-reads.Asked,
-  skip-lines-reads.Learnt,
-  content-below t,
-  content.Post,
-) (times-at t) times.Post
-times-sub-content t c = ?
+times-skip-lines-requires : (t : ℕ) → times-lts.Need-skip-lines-requires (times-calls t) (times-at t) times.Post
+times-skip-lines-requires t c κs = c .before .before .before .before .before .before .before .before .before .before .before .before .before .before .pre .1 .0
 
--- src/statements.rt:334:39
-times-content-requires : (t : ℕ) → times-lts.Need-content-requires (
-  refuse-here-reads.Asked,
-  refuse-here-reads.Learnt,
-  next-reads.Asked,
-  next-reads.Learnt,
-  expression-reads.Asked,
-  expression-reads.Learnt,
-  skip-lines-reads.Asked,
-  skip-lines-reads.Learnt,
-  content-below t,
-  content.Post,
-) (times-at t) times.Post
-times-content-requires t c κs = ?
+times-enum-known-r-3 : (t : ℕ) → times-lts.Need-enum-known-r-3 (times-calls t) (times-at t) times.Post
+times-enum-known-r-3 t c = search needs
 
--- src/statements.rt:321:1
-times-returns-2 : (t : ℕ) → times-lts.Need-returns-2 (
-  refuse-here-reads.Asked,
-  refuse-here-reads.Learnt,
-  next-reads.Asked,
-  next-reads.Learnt,
-  expression-reads.Asked,
-  expression-reads.Learnt,
-  skip-lines-reads.Asked,
-  skip-lines-reads.Learnt,
-  content-below t,
-  content.Post,
-) (times-at t) times.Post
-times-returns-2 t c = ?
+times-enum-known-below : (t : ℕ) → times-lts.Need-enum-known-below (times-calls t) (times-at t) times.Post
+times-enum-known-below t c = search needs
 
--- src/statements.rt:321:1
-times-same-length : (t : ℕ) → times-lts.Need-same-length (
-  refuse-here-reads.Asked,
-  refuse-here-reads.Learnt,
-  next-reads.Asked,
-  next-reads.Learnt,
-  expression-reads.Asked,
-  expression-reads.Learnt,
-  skip-lines-reads.Asked,
-  skip-lines-reads.Learnt,
-  content-below t,
-  content.Post,
-) (times-at t) times.Post
-times-same-length t c = ?
+times-sub-content : (t : ℕ) → times-lts.Need-sub-content (times-calls t) (times-at t) times.Post
+times-sub-content t c = search needs
 
--- src/statements.rt:321:1
-times-returns-3 : (t : ℕ) → times-lts.Need-returns-3 (
-  refuse-here-reads.Asked,
-  refuse-here-reads.Learnt,
-  next-reads.Asked,
-  next-reads.Learnt,
-  expression-reads.Asked,
-  expression-reads.Learnt,
-  skip-lines-reads.Asked,
-  skip-lines-reads.Learnt,
-  content-below t,
-  content.Post,
-) (times-at t) times.Post
-times-returns-3 t c = ?
+times-content-requires : (t : ℕ) → times-lts.Need-content-requires (times-calls t) (times-at t) times.Post
+times-content-requires t c κs = (omega (arith, c .before .before .before .before .before .before .before .before .before .before .before .before .before .before .before .before .before .before .before .pre .0, c .before .before .before .before .before .before .before .before .before .before .before .before .before .before .before .before .if1 .left), (c .before .before .before .before .before .before .before .before .before .before .before .before .before .before .before .before .before .before .before .pre .1 .0, c .before .before .before .before .before .before .before .before .before .before .before .before .before .before .before .before .before .before .before .pre .1 .1))
 
--- src/statements.rt:321:1
-times-same-length-2 : (t : ℕ) → times-lts.Need-same-length-2 (
-  refuse-here-reads.Asked,
-  refuse-here-reads.Learnt,
-  next-reads.Asked,
-  next-reads.Learnt,
-  expression-reads.Asked,
-  expression-reads.Learnt,
-  skip-lines-reads.Asked,
-  skip-lines-reads.Learnt,
-  content-below t,
-  content.Post,
-) (times-at t) times.Post
-times-same-length-2 t c = ?
+times-returns-2 : (t : ℕ) → times-lts.Need-returns-2 (times-calls t) (times-at t) times.Post
+times-returns-2 t c = let e : c .before .before .before .before .before .before .before .args .left ≡ suc (c .before .before .before .before .before .before .before .args .left - 1) = omega (arith, c .before .before .before .before .if1 .left) in reads-refused (times-denied _ _ _ e ((subst (Passes _ _ _ _) (c .before .r .given .1) (c .before .before .before .next .ensures)) .so))
 
--- src/statements.rt:321:1
-times-returns-4 : (t : ℕ) → times-lts.Need-returns-4 (
-  refuse-here-reads.Asked,
-  refuse-here-reads.Learnt,
-  next-reads.Asked,
-  next-reads.Learnt,
-  expression-reads.Asked,
-  expression-reads.Learnt,
-  skip-lines-reads.Asked,
-  skip-lines-reads.Learnt,
-  content-below t,
-  content.Post,
-) (times-at t) times.Post
-times-returns-4 t c = ?
+times-same-length : (t : ℕ) → times-lts.Need-same-length (times-calls t) (times-at t) times.Post
+times-same-length t c = search needs
 
--- src/statements.rt:321:1
-times-same-length-3 : (t : ℕ) → times-lts.Need-same-length-3 (
-  refuse-here-reads.Asked,
-  refuse-here-reads.Learnt,
-  next-reads.Asked,
-  next-reads.Learnt,
-  expression-reads.Asked,
-  expression-reads.Learnt,
-  skip-lines-reads.Asked,
-  skip-lines-reads.Learnt,
-  content-below t,
-  content.Post,
-) (times-at t) times.Post
-times-same-length-3 t c = ?
+times-returns-3 : (t : ℕ) → times-lts.Need-returns-3 (times-calls t) (times-at t) times.Post
+unfolding _>>_ expression
+times-returns-3 t c = let e : c .before .before .before .before .before .before .before .before .before .before .before .before .before .before .args .left ≡ suc (c .before .before .before .before .before .before .before .before .before .before .before .before .before .before .args .left - 1) = omega (arith, c .before .before .before .before .before .before .before .before .before .before .before .if1 .left) in reads-refused (called-denied _ _ (times-past _ _ _ e 0 [] ((subst (Passes _ _ _ _) (c .before .before .before .before .before .before .before .before .q .given .1) (c .before .before .before .before .before .before .before .before .before .before .next .ensures)) .so)) (lifts-denied ((subst (Reads _ _ _ _ _ _ _) (c .before .r2 .given .1) (c .before .before .before .before .before .expression .ensures)) .so)))
 
--- src/statements.rt:321:1
-times-returns-5 : (t : ℕ) → times-lts.Need-returns-5 (
-  refuse-here-reads.Asked,
-  refuse-here-reads.Learnt,
-  next-reads.Asked,
-  next-reads.Learnt,
-  expression-reads.Asked,
-  expression-reads.Learnt,
-  skip-lines-reads.Asked,
-  skip-lines-reads.Learnt,
-  content-below t,
-  content.Post,
-) (times-at t) times.Post
-times-returns-5 t c = ?
+times-same-length-2 : (t : ℕ) → times-lts.Need-same-length-2 (times-calls t) (times-at t) times.Post
+times-same-length-2 t c = search needs
+
+times-returns-4 : (t : ℕ) → times-lts.Need-returns-4 (times-calls t) (times-at t) times.Post
+unfolding _>>_ expression
+times-returns-4 t c = let e : c .before .before .before .before .before .before .before .before .before .before .before .before .before .before .before .before .before .before .args .left ≡ suc (c .before .before .before .before .before .before .before .before .before .before .before .before .before .before .before .before .before .before .args .left - 1) = omega (arith, c .before .before .before .before .before .before .before .before .before .before .before .before .before .before .before .if1 .left) in reads-refused (called-denied _ _ (called _ _ (times-past _ _ _ e _ _ ((subst (Passes _ _ _ _) (c .before .before .before .before .before .before .before .before .before .before .before .before .q .given .1) (c .before .before .before .before .before .before .before .before .before .before .before .before .before .before .next .ensures)) .so)) (lifts ((subst (Reads _ _ _ _ _ _ _) (c .before .before .before .before .before .end .given .1) (c .before .before .before .before .before .before .before .before .before .expression .ensures)) .so))) ((subst (Passes _ _ _ _) (c .before .r3 .given .1) (c .before .before .before .skip-lines .ensures)) .so))
+
+times-same-length-3 : (t : ℕ) → times-lts.Need-same-length-3 (times-calls t) (times-at t) times.Post
+times-same-length-3 t c = search needs
+
+times-returns-5 : (t : ℕ) → times-lts.Need-returns-5 (times-calls t) (times-at t) times.Post
+unfolding _>>_ expression
+times-returns-5 t c = let e : c .before .before .before .before .before .before .before .before .before .before .before .before .before .before .before .before .before .before .before .before .before .before .args .left ≡ suc (c .before .before .before .before .before .before .before .before .before .before .before .before .before .before .before .before .before .before .before .before .before .before .args .left - 1) = omega (arith, c .before .before .before .before .before .before .before .before .before .before .before .before .before .before .before .before .before .before .before .if1 .left) in reads-on (comes _ _ (called _ _ (times-past _ _ _ e _ _ ((subst (Passes _ _ _ _) (c .before .before .before .before .before .before .before .before .before .before .before .before .before .before .before .before .q .given .1) (c .before .before .before .before .before .before .before .before .before .before .before .before .before .before .before .before .before .before .next .ensures)) .so)) (lifts ((subst (Reads _ _ _ _ _ _ _) (c .before .before .before .before .before .before .before .before .before .end .given .1) (c .before .before .before .before .before .before .before .before .before .before .before .before .before .expression .ensures)) .so))) ((subst (Passes _ _ _ _) (c .before .before .before .before .before .below .given .1) (c .before .before .before .before .before .before .before .skip-lines .ensures)) .so)) (c .before .before .content .ensures)
 
 pub +content+line+times-spec : {M : Type 1} → statement M
-+content+line+times-spec = close μ-content μ-line μ-times (λ t. content-lts.spec (
-  is-line-end-reads.Asked,
-  is-line-end-reads.Learnt,
-  refuse-here-reads.Asked,
-  refuse-here-reads.Learnt,
-  line-below t,
-  line.Post,
-  put-span-reads.Asked,
-  put-span-reads.Learnt,
-)
++content+line+times-spec = close μ-content μ-line μ-times (λ t. content-lts.spec (content-calls t)
     (content-at t)
     content.Post
     (content-is-line-end-requires t)
@@ -1210,26 +283,7 @@ pub +content+line+times-spec : {M : Type 1} → statement M
     (content-returns-2 t)
     (content-same-length-2 t)
     (content-returns-3 t))
-    (λ t. line-lts.spec (
-      refuse-here-reads.Asked,
-      refuse-here-reads.Learnt,
-      text-reads.Asked,
-      text-reads.Learnt,
-      operation-reads.Asked,
-      operation-reads.Learnt,
-      instruction-reads.Asked,
-      instruction-reads.Learnt,
-      directive-of-reads.Asked,
-      directive-of-reads.Learnt,
-      constant-reads.Asked,
-      constant-reads.Learnt,
-      data-of-reads.Asked,
-      data-of-reads.Learnt,
-      times-below t,
-      times.Post,
-      label-reads.Asked,
-      label-reads.Learnt,
-    )
+    (λ t. line-lts.spec (line-calls t)
     (line-at t)
     line.Post
     (line-refuse-here-requires t)
