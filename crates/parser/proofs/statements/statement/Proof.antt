@@ -1,3 +1,10 @@
+-- Past empty lines none is left, or the place is written and the statement follows.
+-- Assumes nothing.
+use mathlib.Core.Path.{_≡_, refl, sym, ap, subst, _∙_}
+use Rattle.lexer.specs.Text.{bytes}
+use Rattle.rules.specs.Records.{encode}
+use Rattle.parser.specs.Views.{Passes, Reads}
+use Rattle.parser.proofs.StatementsRun.{none-there, none-denied, statement-reads, statement-denied}
 use borrow.Author.Needs.{needs}
 use Rattle.parser.proofs.statements.statement.Statement.{statement}
 use Rattle.parser.proofs.statements.statement.Tie as tie
@@ -8,61 +15,49 @@ use Rattle.parser.proofs.statements.line.Reads as line-reads
 use Rattle.parser.proofs.statements.skip_lines.Reads as skip-lines-reads
 use Rattle.records.proofs.put_place.Reads as put-place-reads
 
--- src/statements.rt:377:11
 skip-lines-requires : tie.Need-skip-lines-requires
-skip-lines-requires c κs = search needs
+skip-lines-requires c κs = c .before .before .pre .0
 
--- src/statements.rt:378:23
 enum-known-r : tie.Need-enum-known-r
 enum-known-r c = search needs
 
--- src/statements.rt:379:21
 enum-known-q : tie.Need-enum-known-q
 enum-known-q c = search needs
 
--- src/statements.rt:381:16
 is-line-end-requires : tie.Need-is-line-end-requires
 is-line-end-requires c κs = search needs
 
--- src/statements.rt:382:17
 returns : tie.Need-returns
-returns c = ?
+returns c = record { so = none-there _ ((subst (Passes _ _ _ _) (c .before .before .before .q .given .1) (c .before .before .before .before .before .skip-lines .ensures)) .so) (sym (c .before .is-line-end .ensures) ∙ c .if1 .taken) _ }
 
--- src/statements.rt:384:17
 put-place-requires : tie.Need-put-place-requires
 put-place-requires c κs = search needs
 
--- src/statements.rt:385:19
 line-requires : tie.Need-line-requires
-line-requires c κs = search needs
+line-requires c κs = c .before .before .before .before .before .before .before .before .before .before .before .before .before .pre
 
--- src/statements.rt:386:33
 enum-known-r-2 : tie.Need-enum-known-r-2
 enum-known-r-2 c = search needs
 
--- src/statements.rt:387:30
 enum-known-after : tie.Need-enum-known-after
 enum-known-after c = search needs
 
--- src/statements.rt:367:1
 returns-2 : tie.Need-returns-2
-returns-2 c = ?
+returns-2 c = record { so = none-denied _ ((subst (Passes _ _ _ _) (c .before .r .given .1) (c .before .before .before .skip-lines .ensures)) .so) }
 
--- src/statements.rt:367:1
 same-length : tie.Need-same-length
 same-length c = search needs
 
--- src/statements.rt:367:1
 returns-3 : tie.Need-returns-3
-returns-3 c = ?
+unfolding bytes encode
+returns-3 c = record { so = statement-denied _ ((subst (Passes _ _ _ _) (c .before .before .before .before .before .before .before .before .before .before .before .before .before .before .q .given .1) (c .before .before .before .before .before .before .before .before .before .before .before .before .before .before .before .before .skip-lines .ensures)) .so) (sym (c .before .before .before .before .before .before .before .before .before .before .before .before .is-line-end .ensures) ∙ c .before .before .before .before .before .before .before .before .before .before .before .if1 .left) (c .before .before .before .before .before .before .before .before .before .put-place .ensures) ((subst (Reads _ _ _ _ _ _ _) (c .before .r2 .given .1) (c .before .before .before .before .before .line .ensures)) .so) }
 
--- src/statements.rt:367:1
 same-length-2 : tie.Need-same-length-2
 same-length-2 c = search needs
 
--- src/statements.rt:367:1
 returns-4 : tie.Need-returns-4
-returns-4 c = ?
+unfolding bytes encode
+returns-4 c = record { so = statement-reads _ ((subst (Passes _ _ _ _) (c .before .before .before .before .before .before .before .before .before .before .before .before .before .before .q .given .1) (c .before .before .before .before .before .before .before .before .before .before .before .before .before .before .before .before .skip-lines .ensures)) .so) (sym (c .before .before .before .before .before .before .before .before .before .before .before .before .is-line-end .ensures) ∙ c .before .before .before .before .before .before .before .before .before .before .before .if1 .left) (c .before .before .before .before .before .before .before .before .before .put-place .ensures) ((subst (Reads _ _ _ _ _ _ _) (c .before .after .given .1) (c .before .before .before .before .before .line .ensures)) .so) }
 
 pub statement-spec : {M : Type 1} → statement M
 statement-spec =
