@@ -6,3 +6,4 @@ pub mod StatementsLines
 pub mod StatementsForms
 pub mod StatementsData
 pub mod StatementsRun
+pub mod StatementsCalls

@@ -7,9 +7,9 @@ use mathlib.Core.Bool.{Bool, true, false, _||_}
 use native.Mathlib.Omega.{arith}
 use borrow.Author.Tests.{lt-ltb}
 use lib.Dec.{eqb, ltb}
-use lib.ListN.{length, take, drop}
-use Rattle.lexer.specs.Text.{if_then_else_, maybe, is, bytes}
-use Rattle.rules.specs.Lexemes.{Kind, Lexeme}
+use lib.ListN.{length, take}
+use Rattle.lexer.specs.Text.{is, bytes}
+use Rattle.rules.specs.Lexemes.{Lexeme}
 use Rattle.rules.specs.Records.{LD, field, fields, encode}
 use Rattle.rules.specs.Reader.{Refusal as Cause, at as at-span, Answer, done, refused, Reader, Line, after, thence, _>>=_, _>>_, return, write, refuse, kind, passed, next, refuseHere, isLineEnd}
 use Rattle.rules.specs.Statements.{State, inLine, lineEnd, literalOf, literals, someData}
@@ -142,11 +142,11 @@ module _ {s : List ℕ} {p : Parser} {width i : ℕ} {l : List ℕ} {q : Parser}
   pub front-ends : (eqb (q .kind) 10 || eqb (q .kind) 0) ≡ true → Literals s p width i l l₁ q w some
   unfolding front thence return after
   front-ends e = record {
-      ds = so .bs;
-      comes = record { reads = so .reads ∙ ap (front (so .bs)) (literals-end s q width e) ∙ rw (append-nil (so .bs)); kept = so .kept };
-      wrote = so .wrote;
-      is-some = so .is-some;
-    }
+    ds = so .bs;
+    comes = record { reads = so .reads ∙ ap (front (so .bs)) (literals-end s q width e) ∙ rw (append-nil (so .bs)); kept = so .kept };
+    wrote = so .wrote;
+    is-some = so .is-some;
+  }
 
   pub front-refused : {r : Refusal} → NoLiteral s q width r → Denies line s p (literalsFrom s p width) r
   unfolding front thence
@@ -155,12 +155,12 @@ module _ {s : List ℕ} {p : Parser} {width i : ℕ} {l : List ℕ} {q : Parser}
   module _ {n : ℕ} {l₂ : List ℕ} {more : Bool} (h : Literal s q width w l₁ l₂ n more) where
     pub front-turns : isLineEnd (hereOf s q .kind) ≡ false → {q₂ : Parser} → Comes line s q next q₂ tt → Front s p width i l q₂ n (some || more) l₂
     front-turns e {q₂} k = record {
-        bs = so .bs ++ h .ds;
-        reads = so .reads ∙ ap (front (so .bs)) (turn-is s q width h q₂ e k) ∙ front-front (so .bs) (h .ds) _;
-        kept = k .kept ∙ so .kept;
-        wrote = follows (so .bs) (h .ds) (so .wrote) (h .wrote);
-        is-some = rw (so .is-some, h .is-some) (sym (some-append (so .bs) (h .ds)));
-      }
+      bs = so .bs ++ h .ds;
+      reads = so .reads ∙ ap (front (so .bs)) (turn-is s q width h q₂ e k) ∙ front-front (so .bs) (h .ds) _;
+      kept = k .kept ∙ so .kept;
+      wrote = follows (so .bs) (h .ds) (so .wrote) (h .wrote);
+      is-some = rw (so .is-some, h .is-some) (sym (some-append (so .bs) (h .ds)));
+    }
 
     pub front-stops : {r : Refusal} → Denies line s q next r → Denies line s p (literalsFrom s p width) r
     unfolding front thence

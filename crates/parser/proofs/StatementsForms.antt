@@ -1,9 +1,8 @@
 -- The forms of a statement: what its first word says, and how each is read behind that word.
 -- Assumes nothing.
-use Prim.Native.Nat.{ℕ, zero, suc, _+_, _≤_}
-use Prim.Native.Char.{code}
+use Prim.Native.Nat.{ℕ, suc}
 use mathlib.Core.Path.{_≡_, refl, sym, ap, _∙_}
-use mathlib.Core.List.{List, [], _∷_, _++_, map}
+use mathlib.Core.List.{List, [], map}
 use mathlib.Core.Bool.{Bool, true, false, _||_}
 use mathlib.Core.Option.{Option, none, some}
 use lib.Dec.{eqb, ltb}
@@ -16,7 +15,7 @@ use Rattle.names.specs.declared.Directive.the-variants as directive
 use Rattle.rules.specs.Lexemes.{Kind, word, Lexeme, nameIn, operationIn}
 use Rattle.rules.specs.Lexemes.{textOf as wordOf}
 use Rattle.rules.specs.Records.{LL, LI, LT, encode}
-use Rattle.rules.specs.Reader.{at as at-span, Answer, done, refused, Reader, Line, after, thence, _>>=_, _>>_, return, write, refuse, ahead, kind, passed, next, refuseHere, isMark, isLineEnd}
+use Rattle.rules.specs.Reader.{at as at-span, Reader, thence, _>>=_, _>>_, return, write, refuse, ahead, kind, passed, next, refuseHere}
 use Rattle.rules.specs.Expressions.{expression}
 use Rattle.rules.specs.Operands.{operands, isWord}
 use Rattle.rules.specs.Statements.{State, over, inLine, lineEnd, skipLines, passing, label, rep, repne, instruction, constant, dataOf, line, content, times}
@@ -25,7 +24,7 @@ use Rattle.parser.specs.declared.state.Parser.{Parser}
 use Rattle.parser.specs.declared.state.Refusal.{Refusal}
 use Rattle.parser.specs.Views.{numbersOf, kindBy, Plain, textOf, hereOf, stateOf, whole, Gives, Denies, Comes}
 use Rattle.parser.specs.Views.{line as inside}
-use Rattle.parser.proofs.Chain.{after-nil, Sofar, starts, becomes, comes, called, called-denied, ends, lifts-comes, lifts-denied, denied, refuses, refuses-here, writes, returns, is-ahead, is-kind}
+use Rattle.parser.proofs.Chain.{after-nil, Sofar, starts, becomes, comes, called, called-denied, ends, lifts-comes, lifts-denied, denied, refuses, refuses-here, writes, returns, is-kind}
 use Rattle.parser.proofs.StatementsLines.{end-is}
 use Rattle.parser.proofs.Flat.{by-kind, mark-is}
 

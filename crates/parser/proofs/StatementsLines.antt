@@ -1,19 +1,18 @@
 -- The lines that the code's state stands in: every line has an end, each step leaves fewer tokens, and how the code comes from line to line.
 -- Assumes nothing.
-use Prim.Native.Nat.{ℕ, zero, suc, _+_, _≤_, _<_}
+use Prim.Native.Nat.{ℕ, suc, _+_, _≤_, _<_}
 use mathlib.Core.Path.{_≡_, refl, sym, ap, subst, _∙_}
 use mathlib.Core.List.{List, [], _∷_}
 use mathlib.Core.Bool.{Bool, true, false, true≢false, _||_}
 use mathlib.Core.Option.{Option, none, some}
 use native.Mathlib.Omega.{arith}
-use native.Mathlib.Nat.{le-refl}
 use borrow.Author.Tests.{eqb-true}
 use lib.Dec.{eqb}
 use lib.ListN.{length, drop}
 use Rattle.lexer.specs.Text.{if_then_else_, maybe}
-use Rattle.rules.specs.Lexemes.{Kind, newline, Lexeme, tokensFrom}
-use Rattle.rules.specs.Reader.{Refusal as Cause, at as at-span, nowhere, Answer, done, refused, Reader, Line, after, thence, _>>=_, _>>_, refusedAs, arrive, step, next, kind, refuseHere, isLineEnd}
-use Rattle.rules.specs.Statements.{Row, State, push, rows, over, inLine, firstOf, enter, stepRow, nextRow, lineEnd, skip, skipLines}
+use Rattle.rules.specs.Lexemes.{Lexeme}
+use Rattle.rules.specs.Reader.{Refusal as Cause, at as at-span, Answer, done, refused, Reader, Line, thence, _>>=_, refusedAs, arrive, step, next, kind, refuseHere, isLineEnd}
+use Rattle.rules.specs.Statements.{Row, State, rows, over, inLine, firstOf, enter, stepRow, nextRow, lineEnd, skip, skipLines}
 use Rattle.rules.proofs.Lexemes.{ended-cons}
 use Rattle.rules.proofs.Lexemes.{Ended as Finished}
 use Rattle.rules.proofs.Rows.{rows-some}
@@ -22,7 +21,7 @@ use Rattle.rules.proofs.Cut.{tokens-finished, tokens-count, rows-total, rows-al
 use Rattle.parser.specs.declared.state.Parser.{Parser}
 use Rattle.parser.specs.declared.state.Step.{Step}
 use Rattle.parser.specs.declared.state.Step.the-variants.{Ahead, Stopped}
-use Rattle.parser.specs.Views.{numbersOf, kindBy, textOf, hereOf, behind, belowIn, moreIn, moreOf, belowOf, stateOf, lineOf, rowsOf, line, whole, Comes, Denies, Passes, PassesAs}
+use Rattle.parser.specs.Views.{numbersOf, textOf, hereOf, behind, moreOf, belowOf, stateOf, lineOf, rowsOf, line, whole, Comes, Passes, PassesAs}
 use Rattle.parser.specs.Statements.{begin, Starts, StartsAs}
 use Rattle.parser.proofs.Chain.{after-nil, passes-by}
 use Rattle.parser.proofs.Flat.{line-end-is, kind-end, other-byte}
@@ -37,6 +36,15 @@ arrived {S} x p {t} h = go (refusedAs (x .kind)) h
     go none e = e
     go (some n) e = cc
 
+-- a reader that begins where a token arrives
+pub arrive-then : {A : Type 0} (x : Lexeme) (t : State) (m : Reader State A) → arrive x (m t) ≡ thence {A = Unit {0}} (arrive x (done [] tt t)) (λ _. m)
+unfolding arrive thence
+arrive-then x t m = go (refusedAs (x .kind))
+  where
+    go : (o : Option ℕ) → maybe o (m t) (λ n. refused (at-span n (x .from) (x .to))) ≡ thence {A = Unit {0}} (maybe o (done [] tt t) (λ n. refused (at-span n (x .from) (x .to)))) (λ _. m)
+    go none = sym (after-nil _)
+    go (some n) = refl
+
 -- In a line that has an end, a token that is not its end has another behind it.
 inside-more : (a : ℕ) (x : Lexeme) (ys : List Lexeme) → Ended x ys → isLineEnd (x .kind) ≡ false → (l : Line) → next (record { last = a; here = x; more = ys }) ≡ done [] tt l → length ys ≡ suc (length (l .more))
 unfolding next step
@@ -48,13 +56,8 @@ inside-more a x (y ∷ ys) h i l e =
 
 -- From a line's end with a line below it.
 skip-row : (l : Line) (r : Row) (rs : List Row) → isLineEnd (l .here .kind) ≡ true → skip l (r ∷ rs) ≡ thence {A = Unit {0}} (arrive (r .first) (done [] tt (enter r rs))) (λ _. skipLines)
-unfolding skipLines skip enter firstOf arrive thence
-skip-row l r rs i = rw i (go (refusedAs (r .first .kind)))
-  where
-    go : (o : Option ℕ) → _≡_ {A = Answer State (Unit {0})} (maybe o (skip (firstOf r) rs) (λ n. refused (at-span n (r .first .from) (r .first .to))))
-        (thence {A = Unit {0}} (maybe o (done [] tt (enter r rs)) (λ n. refused (at-span n (r .first .from) (r .first .to)))) (λ _. skipLines))
-    go none = sym (after-nil _)
-    go (some n) = refl
+unfolding skipLines skip enter
+skip-row l r rs i = rw i (arrive-then (r .first) (enter r rs) skipLines)
 
 module _ (u : State) {r : Row} {rs : List Row} (e : u .below ≡ r ∷ rs) where
   row-is : nextRow u ≡ arrive (r .first) (done [] tt (enter r rs))

@@ -1,8 +1,8 @@
 -- A statement with its place, and statements until none is left: each one read leaves fewer tokens.
 -- Assumes nothing.
 use Prim.Native.Nat.{ℕ, zero, suc, _≤_, _<_}
-use mathlib.Core.Path.{_≡_, refl, sym, ap, _∙_}
-use mathlib.Core.List.{List, [], _∷_}
+use mathlib.Core.Path.{_≡_, refl, ap, _∙_}
+use mathlib.Core.List.{List, []}
 use mathlib.Core.Bool.{Bool, true, false, _||_}
 use native.Mathlib.Omega.{arith}
 use native.Mathlib.Nat.{le-refl}
@@ -10,14 +10,14 @@ use lib.Dec.{eqb}
 use lib.ListN.{length}
 use Rattle.lexer.specs.Text.{if_then_else_}
 use Rattle.rules.specs.Records.{ST, encode}
-use Rattle.rules.specs.Reader.{Answer, done, refused, Reader, after, thence, _>>=_, _>>_, return, write, ahead, isLineEnd}
+use Rattle.rules.specs.Reader.{Answer, Reader, thence, _>>=_, _>>_, return, write, ahead}
 use Rattle.rules.specs.Statements.{State, over, inLine, skipLines, line, times, begun, statement, statements}
-use Rattle.rules.proofs.Progress.{size, Below, Lower, statement-left}
+use Rattle.rules.proofs.Progress.{size, Lower, statement-left}
 use Rattle.records.specs.Writes.{Wrote}
 use Rattle.parser.specs.declared.state.Parser.{Parser}
 use Rattle.parser.specs.declared.state.Refusal.{Refusal}
 use Rattle.parser.specs.declared.state.Parsed.the-variants.{Done, Refused}
-use Rattle.parser.specs.Views.{hereOf, behind, stateOf, whole, Gives, Denies, Comes, Reads}
+use Rattle.parser.specs.Views.{behind, stateOf, whole, Gives, Denies, Comes}
 use Rattle.parser.specs.Statements.{NoneThere, ReadsStatements}
 use Rattle.parser.proofs.Chain.{after-nil, Sofar, starts, becomes, comes, called, called-denied, ends, denied, lands, writes, returns, reads-done, reads-refused}
 use Rattle.parser.proofs.StatementsLines.{end-is, tokens-left, view-below}
@@ -84,22 +84,28 @@ module _ (table : List ℕ) {s : List ℕ} {p : Parser} {l : List ℕ} {q : Pars
 
   pub run-turns : {l₂ : List ℕ} {q₂ : Parser} {w₂ : ℕ} → Gives whole s q (statement table) w l₁ l₂ q₂ w₂ true → Runs table s p l q₂ w₂ l₂
   unfolding statements
-  run-turns g = record { so = λ n h.
-      let (k, f, so) = r .so n h in
-      let (j, e, i) = fewer table g k f in
-      (j, i, rw e at (called (statement table) (λ more. if more then (statements table k) else (return tt)) so g)) }
+  run-turns g = record {
+    so = λ n h.
+        let (k, f, so) = r .so n h in
+        let (j, e, i) = fewer table g k f in
+        (j, i, rw e at (called (statement table) (λ more. if more then (statements table k) else (return tt)) so g));
+  }
 
   few : {n : ℕ} → length (behind s (p .kind) (p .pos)) ≤ n → size (stateOf s p) ≤ n
   few h = omega (arith, tokens-left s p)
 
   pub run-ends : {l₂ : List ℕ} {q₂ : Parser} → NoneThere table s q l₁ l₂ q₂ → ReadsStatements table s p l l₂ (Done q₂ w)
   unfolding statements
-  run-ends g = record { so = λ n h.
-      let (k, f, so) = r .so n (few h) in
-      rw (g .same) (reads-done (lands (comes (statement table) (λ more. if more then (statements table k) else (return tt)) so (g .comes)) (returns tt))) }
+  run-ends g = record {
+    so = λ n h.
+        let (k, f, so) = r .so n (few h) in
+        rw (g .same) (reads-done (lands (comes (statement table) (λ more. if more then (statements table k) else (return tt)) so (g .comes)) (returns tt)));
+  }
 
   pub run-denied : {l₂ : List ℕ} {c : Refusal} → Denies whole s q (statement table) c → ReadsStatements table s p l l₂ (Refused c)
   unfolding statements
-  run-denied g = record { so = λ n h.
-      let (k, f, so) = r .so n (few h) in
-      reads-refused (called-denied (statement table) (λ more. if more then (statements table k) else (return tt)) so g) }
+  run-denied g = record {
+    so = λ n h.
+        let (k, f, so) = r .so n (few h) in
+        reads-refused (called-denied (statement table) (λ more. if more then (statements table k) else (return tt)) so g);
+  }

@@ -1,6 +1,4 @@
 // Statements: labels, instructions, constants, data and `times`.
-use names::Directive;
-use names::Found;
 use super::expressions::expression;
 use super::operands::OperandsRead;
 use super::operands::operands;
@@ -11,9 +9,11 @@ use super::state::Step;
 use super::state::is_line_end;
 use super::state::next;
 use super::state::next_line;
-use super::state::refused_at;
 use super::state::refuse_here;
+use super::state::refused_at;
 use super::state::text;
+use names::Directive;
+use names::Found;
 ghost use mathlib.Core.Path.{_≡_};
 ghost use mathlib.Core.Bool.{true, false, _||_};
 ghost use Prim.Native.Nat.{ℕ, _≤_};
@@ -105,11 +105,14 @@ fn label(src: &[u8], out: &mut [u8], at: u32, p: Parser) -> Parsed
     }
 }
 
-// `rep` and `repne`.
+const REP: u8 = 46;
+
+const REPNE: u8 = 47;
+
 fn is_repeat(operation: u8) -> bool
     ensures { λ r. ⌜ r ≡ (eqb operation rules.rep || eqb operation rules.repne) ⌝ }
 {
-    (operation == 46) | (operation == 47)
+    (operation == REP) | (operation == REPNE)
 }
 
 // An instruction; `rep` and `repne` take no operands and need no line end.
@@ -364,13 +367,7 @@ fn content(
 }
 
 // A statement, its first token's place before it, or the answer that none is left.
-pub fn statement(
-    src: &[u8],
-    table: &[u8; 936],
-    out: &mut [u8],
-    at: u32,
-    p: Parser,
-) -> StatementRead
+pub fn statement(src: &[u8], table: &[u8; 936], out: &mut [u8], at: u32, p: Parser) -> StatementRead
     requires { ⌜ (length (now src) ≤ 65536) × (keys.goodTable (now table) ≡ true) ⌝ }
     ensures { λ r. ⌜ answers.ReadsStatement (now (table .entry)) (now (src .entry)) p at (now (out .entry)) (now (out .exit)) r ⌝ }
 {

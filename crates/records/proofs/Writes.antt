@@ -42,19 +42,19 @@ nothing at l = record { long = refl; grows = le-refl at; place = λ _. sym (add-
 pub follows : {at w r : ℕ} (a b : List ℕ) {l l₁ l₂ : List ℕ} → Wrote at a l l₁ w → Wrote w b l₁ l₂ r → Wrote at (a ++ b) l l₂ r
 unfolding stores
 follows {at} {w} {r} a b {l} {l₁} {l₂} x y = record {
-    long = y .long ∙ x .long;
-    grows = le-trans (x .grows) (y .grows);
-    place = λ h.
+  long = y .long ∙ x .long;
+  grows = le-trans (x .grows) (y .grows);
+  place = λ h.
       let k : length (a ++ b) ≡ length a + length b = length-append a b in
       let e : w ≡ at + length a = x .place (omega arith) in
       y .place (omega arith) ∙ omega arith;
-    wrote = λ h f.
+  wrote = λ h f.
       let k : length (a ++ b) ≡ length a + length b = length-append a b in
       let e : w ≡ at + length a = x .place (omega arith) in
       let e₁ : l₁ ≡ sets l at a = x .wrote (omega arith) (omega arith) in
       let e₂ : l₂ ≡ sets l₁ w b = y .wrote (omega arith) (omega (arith, x .long)) in
       e₂ ∙ rw (e₁, e) (sym (sets-append l at a b));
-  }
+}
 
 -- bytes stored before others that were stored first
 set-before : (l : List ℕ) (i j x : ℕ) (b : List ℕ) → i < j → set (sets l j b) i x ≡ sets (set l i x) j b
@@ -73,14 +73,14 @@ stored-before l i a b = sets-before l i (i + length a) a b (le-refl (i + length 
 pub headed : {at first w r k : ℕ} (head : ℕ → List ℕ) (b : List ℕ) {l l₁ l₂ : List ℕ} → ((n : ℕ) → length (head n) ≡ k) → at ≤ first → (at + k ≤ limit → first ≡ at + k)
     → Wrote first b l l₁ w → Wrote at (head (w - first)) l₁ l₂ r → Wrote at (head (length b) ++ b) l l₂ w
 headed {at} {first} {w} {r} {k} head b {l} {l₁} {l₂} long h f x y = record {
-    long = y .long ∙ x .long;
-    grows = le-trans h (x .grows);
-    place = λ i.
+  long = y .long ∙ x .long;
+  grows = le-trans h (x .grows);
+  place = λ i.
       let n : length (head (length b) ++ b) ≡ length (head (length b)) + length b = length-append (head (length b)) b in
       let m : length (head (length b)) ≡ k = long (length b) in
       let e : first ≡ at + k = f (omega arith) in
       x .place (omega arith) ∙ omega arith;
-    wrote = λ i j.
+  wrote = λ i j.
       let n : length (head (length b) ++ b) ≡ length (head (length b)) + length b = length-append (head (length b)) b in
       let m : length (head (length b)) ≡ k = long (length b) in
       let e : first ≡ at + length (head (length b)) = f (omega arith) ∙ omega arith in
@@ -88,7 +88,7 @@ headed {at} {first} {w} {r} {k} head b {l} {l₁} {l₂} long h f x y = record {
       let e₁ : l₁ ≡ stores l (at + length (head (length b))) b = x .wrote (omega arith) (omega arith) ∙ rw e in
       let e₂ : l₂ ≡ stores l₁ at (head (length b)) = rw c at (y .wrote (omega (arith, long (w - first))) (omega (arith, long (w - first), x .long))) in
       e₂ ∙ rw e₁ (stored-before l at (head (length b)) b);
-  }
+}
 
 -- bytes stored one after the other by straight-line code
 pub two : (l : List ℕ) (i a b : ℕ) → set (set l i a) (i + 1) b ≡ stores l i (a ∷ b ∷ [])

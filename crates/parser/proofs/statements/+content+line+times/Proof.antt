@@ -2,13 +2,13 @@
 -- three times it is the measure of `times`, one more that of `line`, which calls it, and two more that of `content`, which calls `line`.
 -- Assumes nothing.
 use Prim.Native.Nat.{ℕ, suc, _+_, _*_, _-_, _<_}
-use mathlib.Core.Path.{_≡_, refl, sym, ap, subst, _∙_}
+use mathlib.Core.Path.{_≡_, sym, subst, _∙_}
 use mathlib.Core.List.{[]}
 use native.Mathlib.Omega.{arith}
 use borrow.Author.Needs.{needs}
-use borrow.Author.Tests.{eq-eqb, ne-eqb}
+use borrow.Author.Tests.{ne-eqb}
 use Rattle.lexer.specs.Text.{bytes}
-use Rattle.rules.specs.Records.{field, fields, encode}
+use Rattle.rules.specs.Records.{encode}
 use Rattle.rules.specs.Reader.{_>>_}
 use Rattle.rules.specs.Expressions.{expression}
 use Rattle.parser.specs.Views.{Passes, Reads}

@@ -1,6 +1,6 @@
 -- It follows its reader statement by statement.
 -- Assumes nothing.
-use mathlib.Core.Path.{_≡_, refl, sym, ap, subst, _∙_}
+use mathlib.Core.Path.{subst}
 use mathlib.Core.List.{[]}
 use Rattle.lexer.specs.Text.{bytes}
 use Rattle.rules.specs.Records.{LC, encode}

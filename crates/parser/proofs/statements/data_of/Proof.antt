@@ -1,6 +1,6 @@
 -- It follows its reader statement by statement. The bytes of the literals are written first, and the record before them when they are counted.
 -- Assumes nothing.
-use mathlib.Core.Path.{_≡_, refl, sym, ap, subst, _∙_}
+use mathlib.Core.Path.{sym, subst, _∙_}
 use mathlib.Core.List.{[]}
 use native.Mathlib.Omega.{arith}
 use Rattle.rules.specs.Records.{LD}

@@ -1,10 +1,9 @@
 -- It follows its reader statement by statement; `rep` and `repne` end with their word.
 -- Assumes nothing.
-use mathlib.Core.Path.{_≡_, refl, sym, ap, subst, _∙_}
+use mathlib.Core.Path.{sym, subst, _∙_}
 use mathlib.Core.List.{[]}
 use Rattle.rules.specs.Records.{LI}
 use Rattle.rules.specs.Reader.{_>>_}
-use Rattle.rules.specs.Statements.{State}
 use Rattle.parser.specs.Views.{Passes}
 use Rattle.parser.specs.Answers.{ReadsOperands}
 use Rattle.parser.proofs.Chain.{called, called-denied, comes, ends, writes, lifts, lifts-comes, lifts-denied, is-passed, reads-done, reads-refused}

@@ -1,6 +1,5 @@
 -- At a line feed to the next line; at the end of the source it stays, where no line is below; elsewhere it is refused.
 -- Assumes nothing.
-use mathlib.Core.Path.{_≡_, refl, sym, ap, subst, _∙_}
 use borrow.Author.Tests.{eq-eqb, ne-eqb}
 use Rattle.parser.proofs.StatementsLines.{to-next, stays, not-ended}
 use borrow.Author.Needs.{needs}

@@ -1,7 +1,6 @@
 -- Each byte of a kind is the literal that the rules say.
 -- Assumes nothing.
-use mathlib.Core.Path.{_≡_, refl, sym, ap, subst, _∙_}
-use borrow.Author.Tests.{eq-eqb, ne-eqb}
+use borrow.Author.Tests.{ne-eqb}
 use Rattle.parser.proofs.StatementsData.{is-comma, is-number, is-string, is-open, is-other}
 use borrow.Author.Needs.{needs}
 use Rattle.parser.proofs.statements.literal.Statement.{statement}

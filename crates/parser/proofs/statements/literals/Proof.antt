@@ -1,6 +1,6 @@
 -- The invariant: the bytes so far are written, and stand in front of those of the literals from here on. Each literal leaves fewer tokens.
 -- Assumes nothing.
-use mathlib.Core.Path.{_≡_, refl, sym, ap, subst, _∙_}
+use mathlib.Core.Path.{sym, subst, _∙_}
 use native.Mathlib.Omega.{arith}
 use borrow.Author.Needs.{needs}
 use lib.ListN.{length}

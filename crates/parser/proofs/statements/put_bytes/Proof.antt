@@ -1,12 +1,11 @@
 -- The invariant: the first i bytes are written.
 -- Assumes nothing.
 use Prim.Native.Nat.{_-_, _≤_}
-use mathlib.Core.Path.{_≡_, refl, sym, ap, subst, _∙_}
 use native.Mathlib.Omega.{arith}
 use native.Mathlib.Numerals.{add-one}
 use borrow.Author.Needs.{needs}
 use denote.Ref.{now}
-use lib.ListN.{length, take, getD}
+use lib.ListN.{length, take}
 use lib.Seq.{take-suc, take-all}
 use Rattle.records.specs.Writes.{Wrote}
 use Rattle.records.proofs.Writes.{nothing, follows}

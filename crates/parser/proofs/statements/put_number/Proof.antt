@@ -1,7 +1,6 @@
 -- One byte or two of the number's field, low first.
 -- Assumes nothing.
-use Prim.Native.Nat.{ℕ}
-use mathlib.Core.Path.{_≡_, refl, sym, ap, subst, _∙_}
+use mathlib.Core.Path.{_≡_}
 use native.Mathlib.Omega.{arith}
 use Rattle.rules.specs.Records.{field}
 use Rattle.records.proofs.Writes.{follows}

@@ -1,6 +1,6 @@
 -- The invariant: what is skipped from the start is what is skipped from here. Each line feed passed leaves fewer tokens.
 -- Assumes nothing.
-use mathlib.Core.Path.{_≡_, refl, sym, ap, subst, _∙_}
+use mathlib.Core.Path.{_≡_, refl, subst, _∙_}
 use borrow.Author.Tests.{eq-eqb, ne-eqb}
 use borrow.Author.Needs.{needs}
 use Rattle.rules.specs.Statements.{skipLines}

@@ -1,8 +1,7 @@
 -- As behind a line feed that ends at the place.
 -- Assumes nothing.
-use mathlib.Core.Path.{_≡_, refl, sym, ap, subst, _∙_}
+use mathlib.Core.Path.{refl}
 use Rattle.parser.proofs.StatementsLines.{begins}
-use borrow.Author.Needs.{needs}
 use Rattle.parser.proofs.statements.start.Statement.{statement}
 use Rattle.parser.proofs.statements.start.Tie as tie
 use Rattle.parser.proofs.statements.start.Reads as reads

@@ -1,6 +1,6 @@
 -- Past empty lines none is left, or the place is written and the statement follows.
 -- Assumes nothing.
-use mathlib.Core.Path.{_≡_, refl, sym, ap, subst, _∙_}
+use mathlib.Core.Path.{sym, subst, _∙_}
 use Rattle.lexer.specs.Text.{bytes}
 use Rattle.rules.specs.Records.{encode}
 use Rattle.parser.specs.Views.{Passes, Reads}

@@ -1,7 +1,6 @@
 -- The invariant: what is read from the start is what was read and written so far, and then what is read from here. Each statement read leaves fewer tokens.
 -- Assumes nothing.
-use mathlib.Core.Path.{_≡_, refl, sym, ap, subst, _∙_}
-use native.Mathlib.Omega.{arith}
+use mathlib.Core.Path.{subst, _∙_}
 use borrow.Author.Needs.{needs}
 use Rattle.rules.proofs.Progress.{size}
 use Rattle.parser.specs.Views.{stateOf}
