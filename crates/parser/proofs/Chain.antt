@@ -20,7 +20,7 @@ use Rattle.parser.specs.declared.state.Step.{Step}
 use Rattle.parser.specs.declared.state.Step.the-variants.{Ahead, Stopped}
 use Rattle.parser.specs.declared.state.Parsed.{Parsed}
 use Rattle.parser.specs.declared.state.Parsed.the-variants.{Done, Refused}
-use Rattle.parser.specs.Views.{numbersOf, hereOf, stateOf, lineOf, rowsOf, Level, line, whole, On, view, Kept, Gives, Denies, Comes, Reads, ReadsAs, Passes}
+use Rattle.parser.specs.Views.{Comes, Denies, Gives, Kept, Level, On, Passes, PassesAs, Reads, ReadsAs, hereOf, line, lineOf, numbersOf, rowsOf, stateOf, view, whole}
 
 after-after : {S A : Type 0} (a b : List Record) (o : Answer S A) → after a (after b o) ≡ after (a ++ b) o
 unfolding after
@@ -92,11 +92,11 @@ module _ {L : Level} {s : List ℕ} {p q : Parser} {A : Type 0} {m : Reader (On 
     pub called : {l₂ : List ℕ} {q₂ : Parser} {w₂ : ℕ} {b : B} → Gives L s q m₁ w l₁ l₂ q₂ w₂ b → Sofar L s p m i l q₂ (k b) w₂ l₂
     unfolding _>>=_ thence
     called {l₂} {q₂} {w₂} {b} on = record {
-        v = so .v ++ on .v;
-        reads = so .reads ∙ ap (λ (o : Answer (On L) B). after (so .v) (thence o k)) (on .reads) ∙ after-after (so .v) (on .v) (k b (view L s q₂));
-        kept = kept-on L s p q q₂ (so .kept) (on .kept);
-        wrote = then-records (so .v) (on .v) (so .wrote) (on .wrote);
-      }
+      v = so .v ++ on .v;
+      reads = so .reads ∙ ap (λ (o : Answer (On L) B). after (so .v) (thence o k)) (on .reads) ∙ after-after (so .v) (on .v) (k b (view L s q₂));
+      kept = kept-on L s p q q₂ (so .kept) (on .kept);
+      wrote = then-records (so .v) (on .v) (so .wrote) (on .wrote);
+    }
 
     pub called-denied : {r : Refusal} → Denies L s q m₁ r → Denies L s p m r
     unfolding _>>=_ thence
@@ -199,3 +199,22 @@ module _ {L : Level} {s : List ℕ} {p : Parser} {A : Type 0} {m : Reader (On L)
   pub attempt-denied : {r : Refusal} → Denies L s p m r → Denies L s p (attempt m a) r
   unfolding attempt orBack
   attempt-denied h = record { cause = h .cause; reads = ap (λ (o : Answer (On L) (Option A)). orBack o a (view L s p)) (h .reads); numbers = h .numbers }
+
+-- what a reader does where another does the same
+module _ {L : Level} {s : List ℕ} {p : Parser} {m m₁ : Reader (On L) (Unit {0})} (e : m (view L s p) ≡ m₁ (view L s p)) where
+  denied-by : {r : Refusal} → Denies L s p m₁ r → Denies L s p m r
+  denied-by h = record { cause = h .cause; reads = e ∙ h .reads; numbers = h .numbers }
+
+  pub passes-by : {r : Step} → Passes L s p m₁ r → Passes L s p m r
+  passes-by {r} h = record { so = go r (h .so) }
+    where
+      go : (r : Step) → PassesAs L s p m₁ r → PassesAs L s p m r
+      go (Ahead q) h = record { reads = e ∙ h .reads; kept = h .kept }
+      go (Stopped r) h = denied-by h
+
+  pub reads-by : {i : ℕ} {l l′ : List ℕ} {r : Parsed} → Reads L s p m₁ i l l′ r → Reads L s p m i l l′ r
+  reads-by {i} {l} {l′} {r} h = record { so = go r (h .so) }
+    where
+      go : (r : Parsed) → ReadsAs L s p m₁ i l l′ r → ReadsAs L s p m i l l′ r
+      go (Done q w) h = record { v = h .v; reads = e ∙ h .reads; kept = h .kept; wrote = h .wrote }
+      go (Refused r) h = denied-by h

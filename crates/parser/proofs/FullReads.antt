@@ -36,7 +36,7 @@ use Rattle.parser.specs.Views.{numbersOf, stateOf, whole, Gives, Denies,
 use Rattle.parser.specs.Lent.{foreignPlace}
 use Rattle.parser.specs.Statements.{begin, Started, NotStarted, ReadsStatements}
 use Rattle.parser.specs.Calls.{fullAnswer, FullRead, WritesAs, Writes}
-use Rattle.parser.proofs.Chain.{after-nil}
+use Rattle.parser.proofs.StatementsCalls.{full-read, full-refused, full-not-started}
 use Rattle.parser.proofs.Lent.{never-foreign}
 
 -- Copying byte by byte.
@@ -55,25 +55,8 @@ pub all-copied : (kept out : List ℕ) (n : ℕ) → n ≤ length kept → take 
 unfolding overwrite
 all-copied kept out n h = let e : length (take n kept) ≡ n = length-take n kept ∙ omega arith in rw e
 
--- Reading rows is reading their first token, and then the statements.
-pub arrive-then : {A : Type 0} (x : Lexeme) (t : State) (k : State → Answer State A) → arrive x (k t) ≡ thence (arrive x (done [] tt t)) (λ (_ : Unit {0}). k)
-unfolding arrive thence
-arrive-then {A} x t k = go (refusedAs (x .kind))
-  where
-    go : (o : Option ℕ) → _≡_ {A = Answer State A} (maybe o (k t) (λ m. refused (at m (x .from) (x .to)))) (thence (maybe {B = Answer State (Unit {0})} o (done [] tt t) (λ m. refused (at m (x .from) (x .to)))) (λ (_ : Unit {0}). k))
-    go none = sym (after-nil (k t))
-    go (some m) = refl
-
-rows-read : (table : List ℕ) (n : ℕ) (rs : List Row) → readRows table n rs ≡ thence (begin rs) (λ _. statements table n)
-unfolding readRows begin thence
-rows-read table n [] = refl
-rows-read table n (r ∷ rs) = arrive-then (r .first) (enter r rs) (statements table n)
-
+-- The reading of a source is that of the bytes from place 0 on.
 module _ (table s : List ℕ) (p : Parser) (b : Started s 0 p) where
-  read-is : fullRead table s ≡ outcome (statements table (suc (length s)) (stateOf s p))
-  unfolding fullRead readFrom thence
-  read-is = ap outcome (rows-read table (suc (length s)) (rows (tokensFrom 0 0 s)) ∙ ap (λ (o : Answer State (Unit {0})). thence o (λ _. statements table (suc (length s)))) (b .reads) ∙ after-nil (statements table (suc (length s)) (stateOf s p)))
-
   pub record Accepts (l l′ : List ℕ) (w : ℕ) : Type 0 where
     pub v : List Record
     pub reads : fullRead table s ≡ accepted v
@@ -81,24 +64,17 @@ module _ (table s : List ℕ) (p : Parser) (b : Started s 0 p) where
 
   module _ {l l′ : List ℕ} where
     pub accepts : {q : Parser} {w : ℕ} → ReadsStatements table s p 0 l l′ (parsed.Done q w) → Accepts l l′ w
-    unfolding outcome
-    accepts h =
-        let g = h .so (length s) (b .few) .so in
-        record { v = g .v; reads = read-is ∙ ap outcome (g .reads); wrote = g .wrote }
+    unfolding fullRead
+    accepts h = let f = full-read table s 0 b h in record { v = f .v; reads = f .reads; wrote = f .wrote }
 
     pub denies : {r : Refusal} → ReadsStatements table s p 0 l l′ (parsed.Refused r) → (c : Cause) × (fullRead table s ≡ refusal c) × (r ≡ numbersOf c)
-    unfolding outcome
-    denies h =
-        let g = h .so (length s) (b .few) .so in
-        (g .cause, read-is ∙ ap outcome (g .reads), g .numbers)
+    unfolding fullRead
+    denies h = let f = full-refused table s 0 b h in (f .cause, f .reads, f .numbers)
 
 -- the first token is refused already
 pub not-begun : (table s : List ℕ) {r : Refusal} → NotStarted s 0 r → (c : Cause) × (fullRead table s ≡ refusal c) × (r ≡ numbersOf c)
-unfolding fullRead readFrom thence outcome
-not-begun table s b =
-    (b .cause,
-     ap outcome (rows-read table (suc (length s)) (rows (tokensFrom 0 0 s)) ∙ ap (λ (o : Answer State (Unit {0})). thence o (λ _. statements table (suc (length s)))) (b .reads)),
-     b .numbers)
+unfolding fullRead
+not-begun table s b = let f = full-not-started table s 0 b in (f .cause, f .reads, f .numbers)
 
 -- What it makes of the answer and of the buffer.
 module _ (s l : List ℕ) where

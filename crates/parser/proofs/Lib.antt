@@ -9,3 +9,8 @@ pub mod ExpressionsEvaluate
 pub mod ExpressionsShorter
 pub mod OperandLaws
 pub mod OneReads
+pub mod StatementsLines
+pub mod StatementsForms
+pub mod StatementsData
+pub mod StatementsRun
+pub mod StatementsCalls

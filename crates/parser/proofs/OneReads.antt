@@ -27,13 +27,8 @@ use Rattle.parser.specs.Views.{numbersOf, stateOf, whole, Gives, Comes, 
 use Rattle.parser.specs.Lent.{foreignPlace}
 use Rattle.parser.specs.Statements.{begin, Started, NotStarted, ReadsStatement}
 use Rattle.parser.specs.Calls.{statementAnswer, OneRead}
-use Rattle.parser.proofs.Chain.{after-nil}
-use Rattle.parser.proofs.FullReads.{arrive-then, stored-over, small}
-
-rows-one : (rs : List Row) → oneRead operations rs ≡ thence (begin rs) (λ _. statement operations)
-unfolding oneRead begin thence
-rows-one [] = refl
-rows-one (r ∷ rs) = arrive-then (r .first) (enter r rs) (statement operations)
+use Rattle.parser.proofs.StatementsCalls.{one-at, one-not-started}
+use Rattle.parser.proofs.FullReads.{stored-over, small}
 
 small-drop : (n : ℕ) (s : List ℕ) → Small s → Small (drop n s)
 small-drop zero s m = m
@@ -62,13 +57,11 @@ module _ (s : List ℕ) (place : ℕ) where
     one-denied c e k = record { answer = rw e (ap Refused k); buffer = rw e }
 
   pub not-begun : (l : List ℕ) {r : Refusal} → NotStarted s place r → OneRead s place l l (Refused r)
-  unfolding thence
-  not-begun l b = one-denied l (b .cause) (rows-one (rows (tokensFrom place 0 (drop place s))) ∙ ap (λ (o : Answer State (Unit {0})). thence o (λ _. statement operations)) (b .reads)) (b .numbers)
+  not-begun l b = let f = one-not-started operations s place b in one-denied l (f .cause) (f .reads) (f .numbers)
 
   module _ (p : Parser) (b : Started s place p) where
     read-is : reading ≡ statement operations (stateOf s p)
-    unfolding thence
-    read-is = rows-one (rows (tokensFrom place 0 (drop place s))) ∙ ap (λ (o : Answer State (Unit {0})). thence o (λ _. statement operations)) (b .reads) ∙ after-nil (statement operations (stateOf s p))
+    read-is = one-at operations s place b
 
     pub denied-there : {l l₁ l₂ : List ℕ} {i : ℕ} {r : Refusal} → ReadsStatement operations s p i l₁ l₂ (read.Refused r) → OneRead s place l l (Refused r)
     denied-there {l} h = one-denied l (h .so .cause) (read-is ∙ h .so .reads) (h .so .numbers)
