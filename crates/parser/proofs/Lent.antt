@@ -9,15 +9,26 @@ use native.Mathlib.Omega.{arith}
 use native.Mathlib.Nat.{le-refl}
 use native.Mathlib.Numerals.{add-one}
 use lib.Dec.{ltb}
-use lib.ListN.{length, drop, getD, drop-of-length-le}
+use lib.ListN.{length, drop, getD, drop-of-length-le, length-drop}
 use lib.Seq.{drop-cons}
 use borrow.Author.Tests.{lt-ltb, le-ltb, ltb-false}
 use Rattle.lexer.specs.Text.{if_then_else_, maybe}
 use Rattle.rules.specs.Reader.{Refusal as Cause, at, nowhere}
 use Rattle.parser.specs.declared.state.Refusal.{Refusal}
-use Rattle.rules.specs.Calls.{Result, gives, refuses, unless, mostBytes, tooLong, foreign, ascii, lent, lentAt}
+use Rattle.lexer.specs.Tokens.{tokenAt, sizeOf, faultNumber}
+use Rattle.lexer.specs.Scanned.{nextOf}
+use Rattle.lexer.proofs.TokensText.{tokenAt-le}
+use Rattle.lexer.specs.declared.Token.{Token}
+use Rattle.lexer.specs.declared.Cursor.{Cursor}
+use Rattle.lexer.specs.declared.Fault.{Fault}
+use Rattle.lexer.specs.declared.TokenRead.{TokenRead}
+use Rattle.lexer.specs.declared.TokenRead.the-variants as found
+use Rattle.lexer.specs.declared.Next.the-variants as next
+use Rattle.rules.specs.Calls.{tokenRead, tokenCall, Result, gives, refuses, unless, mostBytes, tooLong, foreign, ascii, lent, lentAt}
 use Rattle.parser.specs.declared.reader.Lent.the-variants.{Accepted, Refused}
 use Rattle.parser.specs.Views.{numbersOf}
+use Rattle.parser.specs.declared.reader.TokenAnswer.the-variants as token
+use Rattle.parser.specs.Calls.{tokenAnswer}
 use Rattle.parser.specs.Lent.{foreignPlace, lentAnswer, lentOf, lentAtOf}
 
 module _ (s : List ℕ) (i : ℕ) where
@@ -132,3 +143,38 @@ module _ {A : Type 0} (s : List ℕ) (x : Result A) where
       go : (b : Bool) → ltb (length s) p ≡ b → Accepted ≡ lentAnswer (unless b (nowhere 42) (lent s (gives tt))) → (unless b (nowhere 42) (lent s x) ≡ x) × (length s ≤ 65536) × (foreignPlace s ≡ length s) × (p ≤ length s)
       go true k e = absurd (never (sym e))
       go false k e = let (i, j, l) = lent-accepted e in (i, j, l, ltb-false (length s) p k)
+
+-- The token read.
+module _ (s : List ℕ) (p : ℕ) where
+  pub token-denied : {r : Refusal} → Refused r ≡ lentAtOf s p → token.Refused r ≡ tokenAnswer p (tokenCall s p)
+  unfolding tokenCall
+  token-denied e = let (c, k, h) = lentAt-refused s (tokenRead p (tokenAt (drop p s))) p e in rw k (ap token.Refused h)
+
+  module _ (a : Accepted ≡ lentAtOf s p) where
+    call-is : tokenCall s p ≡ tokenRead p (tokenAt (drop p s))
+    unfolding tokenCall
+    call-is = lentAt-accepted s (tokenRead p (tokenAt (drop p s))) p a .0
+
+    pub token-given : {t : Token} {c : Cursor} → next.Token t c ≡ nextOf p (tokenAt (drop p s)) → token.Read t c ≡ tokenAnswer p (tokenCall s p)
+    token-given {t} {c} e = go (tokenAt (drop p s)) e ∙ ap (tokenAnswer p) (sym call-is)
+      where
+        go : (x : TokenRead) → next.Token t c ≡ nextOf p x → token.Read t c ≡ tokenAnswer p (tokenRead p x)
+        go (found.Read u) e = cc
+        go (found.Refused n f) e = cc
+
+    pub token-refused : {f : Fault} {i j : ℕ} {r : Refusal} → next.Refused f i j ≡ nextOf p (tokenAt (drop p s)) → r ≡ numbersOf (at (faultNumber f) i j) → token.Refused r ≡ tokenAnswer p (tokenCall s p)
+    token-refused {f} {i} {j} e k = ap token.Refused k ∙ go (tokenAt (drop p s)) e ∙ ap (tokenAnswer p) (sym call-is)
+      where
+        go : (x : TokenRead) → next.Refused f i j ≡ nextOf p x → token.Refused (numbersOf (at (faultNumber f) i j)) ≡ tokenAnswer p (tokenRead p x)
+        go (found.Read u) e = cc
+        go (found.Refused n g) e = let h : f ≡ g = cc in let l : i ≡ p = cc in let m : j ≡ p + n = cc in rw (h, l, m)
+
+    -- a refused number stands within the source
+    pub within : {f : Fault} {i j : ℕ} → next.Refused f i j ≡ nextOf p (tokenAt (drop p s)) → (i ≤ 65536) × (j ≤ 65536)
+    within {f} {i} {j} e = go (tokenAt (drop p s)) (tokenAt-le (drop p s)) e
+      where
+        short : (length s ≤ 65536) × (p ≤ length s)
+        short = let b = lentAt-accepted s (tokenRead p (tokenAt (drop p s))) p a in (b .1, b .3)
+        go : (x : TokenRead) → sizeOf x ≤ length (drop p s) → next.Refused f i j ≡ nextOf p x → (i ≤ 65536) × (j ≤ 65536)
+        go (found.Read u) k e = let z : _≡_ {A = ℕ} 0 1 = cc in absurd (omega arith)
+        go (found.Refused n g) k e = let l : i ≡ p = cc in let m : j ≡ p + n = cc in let q = length-drop p s in (omega (arith, short), omega (arith, short))

@@ -23,19 +23,19 @@ enum-told : tie.Need-enum-told
 enum-told c = search needs
 
 cast-read-one : tie.Need-cast-read-one
-cast-read-one c = let a = (lentAt-accepted _ (inner (now (c .before .before .before .before .before .args .source)) (c .before .before .before .before .before .args .place) (now (c .before .before .before .before .before .args .out))) _ (sym (c .enum-told .given .1) ∙ c .before .before .readable-at .ensures)) in omega (arith, a .1, a .3)
+cast-read-one c = let a = (lentAt-accepted (now (c .before .before .before .before .before .args .source)) (inner (now (c .before .before .before .before .before .args .source)) (c .before .before .before .before .before .args .place) (now (c .before .before .before .before .before .args .out))) (c .before .before .before .before .before .args .place) (sym (c .enum-told .given .1) ∙ c .before .before .readable-at .ensures)) in omega (arith, a .1, a .3)
 
 read-one-requires : tie.Need-read-one-requires
-read-one-requires c κs = let a = (lentAt-accepted _ (inner (now (c .before .before .before .before .before .before .args .source)) (c .before .before .before .before .before .before .args .place) (now (c .before .before .before .before .before .before .args .out))) _ (sym (c .before .enum-told .given .1) ∙ c .before .before .before .readable-at .ensures)) in (a .1, a .2, a .3)
+read-one-requires c κs = let a = (lentAt-accepted (now (c .before .before .before .before .before .before .args .source)) (inner (now (c .before .before .before .before .before .before .args .source)) (c .before .before .before .before .before .before .args .place) (now (c .before .before .before .before .before .before .args .out))) (c .before .before .before .before .before .before .args .place) (sym (c .before .enum-told .given .1) ∙ c .before .before .before .readable-at .ensures)) in (a .1, a .2, a .3)
 
 returns : tie.Need-returns
-returns c = let d = (lentAt-refused _ (inner (now (c .before .before .before .before .before .before .args .source)) (c .before .before .before .before .before .before .args .place) (now (c .before .before .before .before .before .before .args .out))) _ (sym (c .before .r .given .1) ∙ c .before .before .before .readable-at .ensures)) in (call-denied _ _ _ d, buffer-denied _ _ _ d)
+returns c = let d = (lentAt-refused (now (c .before .before .before .before .before .before .args .source)) (inner (now (c .before .before .before .before .before .before .args .source)) (c .before .before .before .before .before .before .args .place) (now (c .before .before .before .before .before .before .args .out))) (c .before .before .before .before .before .before .args .place) (sym (c .before .r .given .1) ∙ c .before .before .before .readable-at .ensures)) in (call-denied (now (c .before .before .before .before .before .before .args .source)) (c .before .before .before .before .before .before .args .place) (now (c .before .before .before .before .before .before .args .out)) d, buffer-denied (now (c .before .before .before .before .before .before .args .source)) (c .before .before .before .before .before .before .args .place) (now (c .before .before .before .before .before .before .args .out)) d)
 
 same-length : tie.Need-same-length
 same-length c = search needs
 
 returns-2 : tie.Need-returns-2
-returns-2 c = let a = (lentAt-accepted _ (inner (now (c .before .before .before .before .before .before .before .before .before .args .source)) (c .before .before .before .before .before .before .before .before .before .args .place) (now (c .before .before .before .before .before .before .before .before .before .args .out))) _ (sym (c .before .before .before .before .enum-told .given .1) ∙ c .before .before .before .before .before .before .readable-at .ensures)) in (call-answer _ _ _ (a .0) (c .before .before .read-one .ensures), call-buffer _ _ _ (a .0) (c .before .before .read-one .ensures))
+returns-2 c = let a = (lentAt-accepted (now (c .before .before .before .before .before .before .before .before .before .args .source)) (inner (now (c .before .before .before .before .before .before .before .before .before .args .source)) (c .before .before .before .before .before .before .before .before .before .args .place) (now (c .before .before .before .before .before .before .before .before .before .args .out))) (c .before .before .before .before .before .before .before .before .before .args .place) (sym (c .before .before .before .before .enum-told .given .1) ∙ c .before .before .before .before .before .before .readable-at .ensures)) in (call-answer (now (c .before .before .before .before .before .before .before .before .before .args .source)) (c .before .before .before .before .before .before .before .before .before .args .place) (now (c .before .before .before .before .before .before .before .before .before .args .out)) (a .0) (c .before .before .read-one .ensures), call-buffer (now (c .before .before .before .before .before .before .before .before .before .args .source)) (c .before .before .before .before .before .before .before .before .before .args .place) (now (c .before .before .before .before .before .before .before .before .before .args .out)) (a .0) (c .before .before .read-one .ensures))
 
 pub statement-read-spec : {M : Type 1} → statement M
 statement-read-spec =

@@ -13,10 +13,10 @@ use Rattle.parser.proofs.statements.statements.Lts as lts
 use Rattle.parser.proofs.statements.statement.Reads as statement-reads
 
 abbrev Inv-loop : tie.InvT-loop
-Inv-loop src table out₀ q₀ w₀ out q w = Runs table src q₀ w₀ out₀ q w out
+Inv-loop src table out₀ at q₀ w₀ out q w = Runs table src q₀ w₀ out₀ q w out
 
 abbrev μ-loop : tie.MeasureT-loop
-μ-loop src table out₀ q₀ w₀ out q w = size (stateOf src q)
+μ-loop src table out₀ at q₀ w₀ out q w = size (stateOf src q)
 
 loop-holds : tie.Need-loop-holds Inv-loop μ-loop
 loop-holds c = run-starts _ _ _ _ _
