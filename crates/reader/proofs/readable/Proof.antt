@@ -1,15 +1,15 @@
 -- 1 and 2 as the rules say, by the place of the first byte above 127.
 -- Assumes nothing.
 use mathlib.Core.Path.{_≡_, refl, sym, ap, _∙_}
-use Rattle.parser.specs.declared.reader.Lent.the-variants.{Refused}
-use Rattle.parser.proofs.Lent.{too-long, is-foreign, all-ascii}
+use Rattle.reader.specs.declared.Lent.the-variants.{Refused}
+use Rattle.reader.proofs.Lending.{too-long, is-foreign, all-ascii}
 use borrow.Author.Needs.{needs}
-use Rattle.parser.proofs.reader.readable.Statement.{statement}
-use Rattle.parser.proofs.reader.readable.Tie as tie
-use Rattle.parser.proofs.reader.readable.Reads as reads
-use Rattle.parser.proofs.reader.readable.Lts as lts
-use Rattle.parser.proofs.reader.foreign.Reads as foreign-reads
+use Rattle.reader.proofs.readable.Statement.{statement}
+use Rattle.reader.proofs.readable.Tie as tie
+use Rattle.reader.proofs.readable.Reads as reads
+use Rattle.reader.proofs.readable.Lts as lts
+use Rattle.reader.proofs.foreign.Reads as foreign-reads
 use Rattle.parser.proofs.state.refused_at.Reads as refused-at-reads
 
 refused-at-requires : tie.Need-refused-at-requires
 refused-at-requires c κs = search needs

@@ -5,17 +5,17 @@ use mathlib.Core.Path.{_≡_, refl, sym, ap, subst, _∙_}
 use native.Mathlib.Omega.{arith}
 use denote.Ref.{now}
 use Rattle.rules.specs.Reader.{at}
 use Rattle.parser.specs.Views.{numbersOf}
-use Rattle.parser.proofs.Lent.{token-denied, token-given, token-refused, within}
+use Rattle.reader.proofs.Lending.{token-denied, token-given, token-refused, within}
 use borrow.Author.Needs.{needs}
-use Rattle.parser.proofs.reader.token_read.Statement.{statement}
-use Rattle.parser.proofs.reader.token_read.Tie as tie
-use Rattle.parser.proofs.reader.token_read.Reads as reads
-use Rattle.parser.proofs.reader.token_read.Lts as lts
+use Rattle.reader.proofs.token_read.Statement.{statement}
+use Rattle.reader.proofs.token_read.Tie as tie
+use Rattle.reader.proofs.token_read.Reads as reads
+use Rattle.reader.proofs.token_read.Lts as lts
 use Rattle.lexer.proofs.Cursor.next_token.Reads as next-token-reads
-use Rattle.parser.proofs.reader.fault_number.Reads as fault-number-reads
-use Rattle.parser.proofs.reader.readable_at.Reads as readable-at-reads
+use Rattle.reader.proofs.fault_number.Reads as fault-number-reads
+use Rattle.reader.proofs.readable_at.Reads as readable-at-reads
 use Rattle.parser.proofs.state.refused_at.Reads as refused-at-reads
 
 readable-at-requires : tie.Need-readable-at-requires
 readable-at-requires c κs = search needs

@@ -1,15 +1,15 @@
 -- 42 first, then as `readable`.
 -- Assumes nothing.
 use mathlib.Core.Path.{_≡_, refl, sym, ap, _∙_}
-use Rattle.parser.specs.declared.reader.Lent.the-variants.{Refused}
-use Rattle.parser.proofs.Lent.{too-far, not-far}
+use Rattle.reader.specs.declared.Lent.the-variants.{Refused}
+use Rattle.reader.proofs.Lending.{too-far, not-far}
 use borrow.Author.Needs.{needs}
-use Rattle.parser.proofs.reader.readable_at.Statement.{statement}
-use Rattle.parser.proofs.reader.readable_at.Tie as tie
-use Rattle.parser.proofs.reader.readable_at.Reads as reads
-use Rattle.parser.proofs.reader.readable_at.Lts as lts
-use Rattle.parser.proofs.reader.readable.Reads as readable-reads
+use Rattle.reader.proofs.readable_at.Statement.{statement}
+use Rattle.reader.proofs.readable_at.Tie as tie
+use Rattle.reader.proofs.readable_at.Reads as reads
+use Rattle.reader.proofs.readable_at.Lts as lts
+use Rattle.reader.proofs.readable.Reads as readable-reads
 use Rattle.parser.proofs.state.refused_at.Reads as refused-at-reads
 
 refused-at-requires : tie.Need-refused-at-requires
 refused-at-requires c κs = search needs

@@ -3,16 +3,16 @@
 use mathlib.Core.Path.{_≡_, refl, sym, ap, subst, _∙_}
 use native.Mathlib.Omega.{arith}
 use Rattle.names.proofs.Operations.{made-good}
 use Rattle.parser.specs.Statements.{ReadsStatements}
-use Rattle.parser.proofs.FullReads.{denies, is-denied, no-room, kept-copied, read-again, never-denied}
+use Rattle.reader.proofs.FullReads.{denies, is-denied, no-room, kept-copied, read-again, never-denied}
 use borrow.Author.Needs.{needs}
-use Rattle.parser.proofs.reader.keep_and_copy.Statement.{statement}
-use Rattle.parser.proofs.reader.keep_and_copy.Tie as tie
-use Rattle.parser.proofs.reader.keep_and_copy.Reads as reads
-use Rattle.parser.proofs.reader.keep_and_copy.Lts as lts
-use Rattle.parser.proofs.reader.copy.Reads as copy-reads
+use Rattle.reader.proofs.keep_and_copy.Statement.{statement}
+use Rattle.reader.proofs.keep_and_copy.Tie as tie
+use Rattle.reader.proofs.keep_and_copy.Reads as reads
+use Rattle.reader.proofs.keep_and_copy.Lts as lts
+use Rattle.reader.proofs.copy.Reads as copy-reads
 use Rattle.parser.proofs.state.refused_at.Reads as refused-at-reads
 use Rattle.parser.proofs.statements.statements.Reads as statements-reads
 
 statements-requires : tie.Need-statements-requires
 statements-requires c κs = (c .before .before .before .before .pre .0, made-good (c .before .before .before .before .pre .2))

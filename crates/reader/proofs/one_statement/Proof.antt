@@ -3,15 +3,15 @@
 use mathlib.Core.Path.{_≡_, refl, sym, ap, subst, _∙_}
 use native.Mathlib.Omega.{arith}
 use Rattle.names.proofs.Operations.{made-good}
 use Rattle.parser.specs.Statements.{ReadsStatement}
-use Rattle.parser.proofs.OneReads.{denied-there, none-there, no-room, read-again, never-denied, never-none}
+use Rattle.reader.proofs.OneReads.{denied-there, none-there, no-room, read-again, never-denied, never-none}
 use borrow.Author.Needs.{needs}
-use Rattle.parser.proofs.reader.one_statement.Statement.{statement}
-use Rattle.parser.proofs.reader.one_statement.Tie as tie
-use Rattle.parser.proofs.reader.one_statement.Reads as reads
-use Rattle.parser.proofs.reader.one_statement.Lts as lts
+use Rattle.reader.proofs.one_statement.Statement.{statement}
+use Rattle.reader.proofs.one_statement.Tie as tie
+use Rattle.reader.proofs.one_statement.Reads as reads
+use Rattle.reader.proofs.one_statement.Lts as lts
 use Rattle.parser.proofs.state.refused_at.Reads as refused-at-reads
 use Rattle.parser.proofs.statements.statement.Reads as statement-reads
 
 slice-aggregate-statement : tie.Need-slice-aggregate-statement
 slice-aggregate-statement c = search needs

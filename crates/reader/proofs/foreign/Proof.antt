@@ -6,11 +6,11 @@ use native.Mathlib.Omega.{arith}
 use borrow.Author.Needs.{needs}
 use lib.ListN.{length, drop}
 use Rattle.rules.specs.Calls.{foreign}
-use Rattle.parser.proofs.Lent.{foreign-here, foreign-on, foreign-end, place-found, place-none}
-use Rattle.parser.proofs.reader.foreign.Statement.{statement}
-use Rattle.parser.proofs.reader.foreign.Tie as tie
-use Rattle.parser.proofs.reader.foreign.Reads as reads
-use Rattle.parser.proofs.reader.foreign.Lts as lts
+use Rattle.reader.proofs.Lending.{foreign-here, foreign-on, foreign-end, place-found, place-none}
+use Rattle.reader.proofs.foreign.Statement.{statement}
+use Rattle.reader.proofs.foreign.Tie as tie
+use Rattle.reader.proofs.foreign.Reads as reads
+use Rattle.reader.proofs.foreign.Lts as lts
 
 abbrev Inv-loop : tie.InvT-loop
 Inv-loop source i₀ i = (i ≤ length source) × (foreign i (drop i source) ≡ foreign 0 source)

@@ -18,17 +18,17 @@ use Rattle.rules.proofs.Shape.{Small, small-split}
 use Rattle.rules.proofs.Table.{proper}
 use Rattle.rules.proofs.Bound.{bounded-one}
 use Rattle.records.specs.Writes.{stores, limit, Wrote}
 use Rattle.parser.specs.declared.state.Parser.{Parser}
 use Rattle.parser.specs.declared.state.Refusal.{Refusal}
 use Rattle.parser.specs.declared.statements.StatementRead.the-variants as read
-use Rattle.parser.specs.declared.reader.StatementAnswer.{StatementAnswer}
-use Rattle.parser.specs.declared.reader.StatementAnswer.the-variants.{Written, NoneLeft, Refused}
+use Rattle.reader.specs.declared.StatementAnswer.{StatementAnswer}
+use Rattle.reader.specs.declared.StatementAnswer.the-variants.{Written, NoneLeft, Refused}
 use Rattle.parser.specs.Views.{numbersOf, stateOf, whole, Gives, Comes, Denies}
-use Rattle.parser.specs.Lent.{foreignPlace}
+use Rattle.reader.specs.Lent.{foreignPlace}
 use Rattle.parser.specs.Statements.{begin, Started, NotStarted, ReadsStatement}
-use Rattle.parser.specs.Calls.{statementAnswer, OneRead}
+use Rattle.reader.specs.Calls.{statementAnswer, OneRead}
 use Rattle.parser.proofs.StatementsCalls.{one-at, one-not-started}
-use Rattle.parser.proofs.FullReads.{stored-over, small}
+use Rattle.reader.proofs.FullReads.{stored-over, small}
 
 small-drop : (n : ℕ) (s : List ℕ) → Small s → Small (drop n s)
 small-drop zero s m = m

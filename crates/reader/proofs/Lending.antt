@@ -25,11 +25,11 @@ use Rattle.lexer.specs.declared.TokenRead.{TokenRead}
 use Rattle.lexer.specs.declared.TokenRead.the-variants as found
 use Rattle.lexer.specs.declared.Next.the-variants as next
 use Rattle.rules.specs.Calls.{tokenRead, tokenCall, Result, gives, refuses, unless, mostBytes, tooLong, foreign, ascii, lent, lentAt}
-use Rattle.parser.specs.declared.reader.Lent.the-variants.{Accepted, Refused}
+use Rattle.reader.specs.declared.Lent.the-variants.{Accepted, Refused}
 use Rattle.parser.specs.Views.{numbersOf}
-use Rattle.parser.specs.declared.reader.TokenAnswer.the-variants as token
-use Rattle.parser.specs.Calls.{tokenAnswer}
-use Rattle.parser.specs.Lent.{foreignPlace, lentAnswer, lentOf, lentAtOf}
+use Rattle.reader.specs.declared.TokenAnswer.the-variants as token
+use Rattle.reader.specs.Calls.{tokenAnswer}
+use Rattle.reader.specs.Lent.{foreignPlace, lentAnswer, lentOf, lentAtOf}
 
 module _ (s : List ℕ) (i : ℕ) where
   pub foreign-here : i < length s → 127 < getD s i 0 → foreign i (drop i s) ≡ some i

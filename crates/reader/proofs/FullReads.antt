@@ -26,18 +26,18 @@ use Rattle.rules.proofs.Bound.{bounded}
 use Rattle.rules.proofs.Listing.{listing-formed, listing-decodes}
 use Rattle.records.specs.Writes.{stores, limit, Wrote}
 use Rattle.records.proofs.Writes.{stores-room}
 use Rattle.parser.specs.declared.state.Parser.{Parser}
 use Rattle.parser.specs.declared.state.Refusal.{Refusal}
 use Rattle.parser.specs.declared.state.Parsed.{Parsed}
 use Rattle.parser.specs.declared.state.Parsed.the-variants as parsed
-use Rattle.parser.specs.declared.reader.FullAnswer.{FullAnswer}
-use Rattle.parser.specs.declared.reader.FullAnswer.the-variants.{Written, Refused}
+use Rattle.reader.specs.declared.FullAnswer.{FullAnswer}
+use Rattle.reader.specs.declared.FullAnswer.the-variants.{Written, Refused}
 use Rattle.parser.specs.Views.{numbersOf, stateOf, whole, Gives, Denies, Reads}
-use Rattle.parser.specs.Lent.{foreignPlace}
+use Rattle.reader.specs.Lent.{foreignPlace}
 use Rattle.parser.specs.Statements.{begin, Started, NotStarted, ReadsStatements}
-use Rattle.parser.specs.Calls.{fullAnswer, FullRead, WritesAs, Writes}
+use Rattle.reader.specs.Calls.{fullAnswer, FullRead, WritesAs, Writes}
 use Rattle.parser.proofs.StatementsCalls.{full-read, full-refused, full-not-started}
-use Rattle.parser.proofs.Lent.{never-foreign}
+use Rattle.reader.proofs.Lending.{never-foreign}
 
 -- Copying byte by byte.
 set-seam : (a b : List ℕ) (y x : ℕ) → set (a ++ (y ∷ b)) (length a) x ≡ a ++ (x ∷ b)

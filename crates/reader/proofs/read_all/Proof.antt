@@ -2,16 +2,16 @@
 -- Assumes nothing.
 use mathlib.Core.Path.{_≡_, refl, sym, ap, subst, _∙_}
 use Rattle.names.specs.Table.{operations}
 use Rattle.parser.specs.Statements.{Starts}
-use Rattle.parser.proofs.FullReads.{is-denied, not-begun}
+use Rattle.reader.proofs.FullReads.{is-denied, not-begun}
 use borrow.Author.Needs.{needs}
-use Rattle.parser.proofs.reader.read_all.Statement.{statement}
-use Rattle.parser.proofs.reader.read_all.Tie as tie
-use Rattle.parser.proofs.reader.read_all.Reads as reads
-use Rattle.parser.proofs.reader.read_all.Lts as lts
+use Rattle.reader.proofs.read_all.Statement.{statement}
+use Rattle.reader.proofs.read_all.Tie as tie
+use Rattle.reader.proofs.read_all.Reads as reads
+use Rattle.reader.proofs.read_all.Lts as lts
 use Rattle.names.proofs.table.Reads as table-reads
-use Rattle.parser.proofs.reader.all_statements.Reads as all-statements-reads
+use Rattle.reader.proofs.all_statements.Reads as all-statements-reads
 use Rattle.parser.proofs.statements.start.Reads as start-reads
 
 start-requires : tie.Need-start-requires
 start-requires c κs = search needs

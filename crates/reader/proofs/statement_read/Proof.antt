@@ -3,15 +3,15 @@
 use mathlib.Core.Path.{_≡_, refl, sym, ap, subst, _∙_}
 use native.Mathlib.Omega.{arith}
 use denote.Ref.{now}
-use Rattle.parser.proofs.Lent.{lentAt-refused, lentAt-accepted}
-use Rattle.parser.proofs.OneReads.{inner, call-answer, call-buffer, call-denied, buffer-denied}
+use Rattle.reader.proofs.Lending.{lentAt-refused, lentAt-accepted}
+use Rattle.reader.proofs.OneReads.{inner, call-answer, call-buffer, call-denied, buffer-denied}
 use borrow.Author.Needs.{needs}
-use Rattle.parser.proofs.reader.statement_read.Statement.{statement}
-use Rattle.parser.proofs.reader.statement_read.Tie as tie
-use Rattle.parser.proofs.reader.statement_read.Reads as reads
-use Rattle.parser.proofs.reader.statement_read.Lts as lts
-use Rattle.parser.proofs.reader.read_one.Reads as read-one-reads
-use Rattle.parser.proofs.reader.readable_at.Reads as readable-at-reads
+use Rattle.reader.proofs.statement_read.Statement.{statement}
+use Rattle.reader.proofs.statement_read.Tie as tie
+use Rattle.reader.proofs.statement_read.Reads as reads
+use Rattle.reader.proofs.statement_read.Lts as lts
+use Rattle.reader.proofs.read_one.Reads as read-one-reads
+use Rattle.reader.proofs.readable_at.Reads as readable-at-reads
 
 readable-at-requires : tie.Need-readable-at-requires
 readable-at-requires c κs = search needs

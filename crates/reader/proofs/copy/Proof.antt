@@ -7,11 +7,11 @@ use native.Mathlib.Omega.{arith}
 use borrow.Author.Needs.{needs}
 use denote.Ref.{now}
 use lib.ListN.{length, take, drop, length-set}
-use Rattle.parser.proofs.FullReads.{copied, all-copied}
-use Rattle.parser.proofs.reader.copy.Statement.{statement}
-use Rattle.parser.proofs.reader.copy.Tie as tie
-use Rattle.parser.proofs.reader.copy.Reads as reads
-use Rattle.parser.proofs.reader.copy.Lts as lts
+use Rattle.reader.proofs.FullReads.{copied, all-copied}
+use Rattle.reader.proofs.copy.Statement.{statement}
+use Rattle.reader.proofs.copy.Tie as tie
+use Rattle.reader.proofs.copy.Reads as reads
+use Rattle.reader.proofs.copy.Lts as lts
 
 abbrev Inv-loop : tie.InvT-loop
 Inv-loop out₀ kept n i₀ out i = (i ≤ n) × (length out ≡ length out₀) × (out ≡ take i kept ++ drop i out₀)

@@ -1,16 +1,16 @@
 -- The first token from the place on is read, then one statement.
 -- Assumes nothing.
 use mathlib.Core.Path.{_≡_, refl, sym, ap, subst, _∙_}
 use Rattle.parser.specs.Statements.{Starts}
-use Rattle.parser.proofs.OneReads.{not-begun}
+use Rattle.reader.proofs.OneReads.{not-begun}
 use borrow.Author.Needs.{needs}
-use Rattle.parser.proofs.reader.read_one.Statement.{statement}
-use Rattle.parser.proofs.reader.read_one.Tie as tie
-use Rattle.parser.proofs.reader.read_one.Reads as reads
-use Rattle.parser.proofs.reader.read_one.Lts as lts
+use Rattle.reader.proofs.read_one.Statement.{statement}
+use Rattle.reader.proofs.read_one.Tie as tie
+use Rattle.reader.proofs.read_one.Reads as reads
+use Rattle.reader.proofs.read_one.Lts as lts
 use Rattle.names.proofs.table.Reads as table-reads
-use Rattle.parser.proofs.reader.one_statement.Reads as one-statement-reads
+use Rattle.reader.proofs.one_statement.Reads as one-statement-reads
 use Rattle.parser.proofs.statements.start.Reads as start-reads
 
 start-requires : tie.Need-start-requires
 start-requires c κs = search needs

@@ -6,15 +6,15 @@ use lib.ListN.{length}
 use Rattle.names.specs.Table.{operations}
 use Rattle.rules.specs.Calls.{listed}
 use Rattle.rules.specs.Statements.{fullRead}
-use Rattle.parser.proofs.Lent.{lent-refused, lent-accepted}
-use Rattle.parser.proofs.FullReads.{call-answer, call-buffer, call-denied, buffer-denied, is-well-written, small}
+use Rattle.reader.proofs.Lending.{lent-refused, lent-accepted}
+use Rattle.reader.proofs.FullReads.{call-answer, call-buffer, call-denied, buffer-denied, is-well-written, small}
 use borrow.Author.Needs.{needs}
-use Rattle.parser.proofs.reader.full_read.Statement.{statement}
-use Rattle.parser.proofs.reader.full_read.Tie as tie
-use Rattle.parser.proofs.reader.full_read.Reads as reads
-use Rattle.parser.proofs.reader.full_read.Lts as lts
-use Rattle.parser.proofs.reader.read_all.Reads as read-all-reads
-use Rattle.parser.proofs.reader.readable.Reads as readable-reads
+use Rattle.reader.proofs.full_read.Statement.{statement}
+use Rattle.reader.proofs.full_read.Tie as tie
+use Rattle.reader.proofs.full_read.Reads as reads
+use Rattle.reader.proofs.full_read.Lts as lts
+use Rattle.reader.proofs.read_all.Reads as read-all-reads
+use Rattle.reader.proofs.readable.Reads as readable-reads
 
 readable-requires : tie.Need-readable-requires
 readable-requires c κs = search needs

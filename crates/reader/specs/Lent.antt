@@ -4,9 +4,9 @@ use mathlib.Core.List.{List, []}
 use lib.ListN.{length}
 use Rattle.lexer.specs.Text.{maybe}
 use Rattle.rules.specs.Calls.{Result, gives, refuses, foreign, lent, lentAt}
-use Rattle.parser.specs.declared.reader.Lent.{Lent}
-use Rattle.parser.specs.declared.reader.Lent.the-variants.{Accepted, Refused}
+use Rattle.reader.specs.declared.Lent.{Lent}
+use Rattle.reader.specs.declared.Lent.the-variants.{Accepted, Refused}
 use Rattle.parser.specs.Views.{numbersOf}
 
 -- the place of the first byte above 127, or the length
 unfoldable pub foreignPlace : List ℕ → ℕ

@@ -14,13 +14,13 @@ use Rattle.names.specs.Table.{operations}
 use Rattle.rules.specs.Records.{Record, listing}
 use Rattle.rules.specs.Statements.{rows, fullRead}
 use Rattle.rules.specs.Calls.{Result, gives, refuses, listed, leaves, Found, nothing, found, oneFound, oneRead, foundBytes}
-use Rattle.parser.specs.declared.reader.TokenAnswer.{TokenAnswer}
-use Rattle.parser.specs.declared.reader.TokenAnswer.the-variants as token
-use Rattle.parser.specs.declared.reader.StatementAnswer.{StatementAnswer}
-use Rattle.parser.specs.declared.reader.StatementAnswer.the-variants as statement
-use Rattle.parser.specs.declared.reader.FullAnswer.{FullAnswer}
-use Rattle.parser.specs.declared.reader.FullAnswer.the-variants as full
+use Rattle.reader.specs.declared.TokenAnswer.{TokenAnswer}
+use Rattle.reader.specs.declared.TokenAnswer.the-variants as token
+use Rattle.reader.specs.declared.StatementAnswer.{StatementAnswer}
+use Rattle.reader.specs.declared.StatementAnswer.the-variants as statement
+use Rattle.reader.specs.declared.FullAnswer.{FullAnswer}
+use Rattle.reader.specs.declared.FullAnswer.the-variants as full
 use Rattle.parser.specs.Views.{numbersOf}
 
 -- the token read at a place, with the state behind it
 abbrev pub tokenAnswer : ℕ → Result Token → TokenAnswer
