@@ -6,30 +6,45 @@ ghost use lib.ListN as ListN;
 ghost use lib.ListN.{drop};
 ghost use Rattle.rules.specs.Records.{ST, LT};
 ghost use Rattle.rules.specs.WellFormed as rules;
-ghost use Rattle.checker.specs.Checker.{wellFormedBytes, markOf, roomOf, fieldAt, recordAs, sized, passes, nextPass, dataPassed, heightOf, stackOf, checkedOf, passedOf};
+ghost use Rattle.rules.specs.Decode.{recordOf};
+ghost use Rattle.checker.specs.Checker.{wellFormedBytes, lettersOf, fieldAt, whole, passes, nextPass, heightOf, stackOf, checkedOf, passedOf};
 
-// The marks that records open with.
-enum Mark {
-    ST,
-    VC,
-    VL,
-    VI,
-    VS,
-    PF,
-    IN,
-    OR,
-    OS,
-    OI,
-    OF,
-    OD,
-    OX,
-    LL,
-    LI,
-    LD,
-    LC,
-    LT,
-    Other,
-}
+// The marks that records open with: two letters as a number.
+const ST: usize = 0x5354;
+
+const VC: usize = 0x5643;
+
+const VL: usize = 0x564c;
+
+const VI: usize = 0x5649;
+
+const VS: usize = 0x5653;
+
+const PF: usize = 0x5046;
+
+const IN: usize = 0x494e;
+
+const OR: usize = 0x4f52;
+
+const OS: usize = 0x4f53;
+
+const OI: usize = 0x4f49;
+
+const OF: usize = 0x4f46;
+
+const OD: usize = 0x4f44;
+
+const OX: usize = 0x4f58;
+
+const LL: usize = 0x4c4c;
+
+const LI: usize = 0x4c49;
+
+const LD: usize = 0x4c44;
+
+const LC: usize = 0x4c43;
+
+const LT: usize = 0x4c54;
 
 // What stands of a statement: expressions, operands above them, expressions above those; and whether a line record has closed it.
 struct Stack {
@@ -50,77 +65,6 @@ enum Checked {
 enum Passed {
     Record(Stack, usize),
     Bad,
-}
-
-fn mark_of(a: u8, b: u8) -> Mark
-    ensures { λ r. ⌜ r ≡ markOf (a ∷ b ∷ []) ⌝ }
-{
-    match a {
-        b'S' => match b {
-            b'T' => Mark::ST,
-            _ => Mark::Other,
-        },
-        b'V' => match b {
-            b'C' => Mark::VC,
-            b'L' => Mark::VL,
-            b'I' => Mark::VI,
-            b'S' => Mark::VS,
-            _ => Mark::Other,
-        },
-        b'P' => match b {
-            b'F' => Mark::PF,
-            _ => Mark::Other,
-        },
-        b'I' => match b {
-            b'N' => Mark::IN,
-            _ => Mark::Other,
-        },
-        b'O' => match b {
-            b'R' => Mark::OR,
-            b'S' => Mark::OS,
-            b'I' => Mark::OI,
-            b'F' => Mark::OF,
-            b'D' => Mark::OD,
-            b'X' => Mark::OX,
-            _ => Mark::Other,
-        },
-        b'L' => match b {
-            b'L' => Mark::LL,
-            b'I' => Mark::LI,
-            b'D' => Mark::LD,
-            b'C' => Mark::LC,
-            b'T' => Mark::LT,
-            _ => Mark::Other,
-        },
-        _ => Mark::Other,
-    }
-}
-
-// How many bytes follow a mark, LD's data left out.
-fn room(m: Mark) -> usize
-    ensures { λ r. ⌜ r ≡ roomOf m ⌝ }
-{
-    match m {
-        Mark::ST => 4,
-        Mark::VC => 12,
-        Mark::VL => 8,
-        Mark::VI => 8,
-        Mark::VS => 8,
-        Mark::PF => 12,
-        Mark::IN => 12,
-        Mark::OR => 12,
-        Mark::OS => 12,
-        Mark::OI => 8,
-        Mark::OF => 8,
-        Mark::OD => 16,
-        Mark::OX => 24,
-        Mark::LL => 8,
-        Mark::LI => 24,
-        Mark::LD => 12,
-        Mark::LC => 8,
-        Mark::LT => 8,
-        Mark::Other => 0,
-    }
 }
 
 // A field, low byte first, or 0 where the bytes end before it does.
@@ -164,18 +108,15 @@ fn to_expression(n: usize, k: Stack) -> Checked
     ensures { λ r. ⌜ checkedOf r ≡ rules.toExpression n (stackOf k) ⌝ }
 {
     if k.operands == 0 {
-        if k.closed {
-            return Checked::Bad;
+        if (n <= k.before) & !k.closed {
+            return Checked::Good(counted(k, k.before - n + 1, 0, k.above, false));
         }
-        if k.before < n {
-            return Checked::Bad;
-        }
-        return Checked::Good(counted(k, k.before - n + 1, 0, k.above, false));
-    }
-    if k.above < n {
         return Checked::Bad;
     }
-    Checked::Good(counted(k, k.before, k.operands, k.above - n + 1, false))
+    if n <= k.above {
+        return Checked::Good(counted(k, k.before, k.operands, k.above - n + 1, false));
+    }
+    Checked::Bad
 }
 
 // They become an operand.
@@ -184,13 +125,10 @@ fn to_operand(n: usize, k: Stack) -> Checked
     ensures { λ r. ⌜ checkedOf r ≡ rules.toOperand n (stackOf k) ⌝ }
 {
     if k.operands == 0 {
-        if k.closed {
-            return Checked::Bad;
+        if (n <= k.before) & !k.closed {
+            return Checked::Good(counted(k, k.before - n, 1, 0, false));
         }
-        if k.before < n {
-            return Checked::Bad;
-        }
-        return Checked::Good(counted(k, k.before - n, 1, 0, false));
+        return Checked::Bad;
     }
     if k.above == n {
         return Checked::Good(counted(k, k.before, k.operands + 1, 0, false));
@@ -202,28 +140,18 @@ fn to_operand(n: usize, k: Stack) -> Checked
 fn to_line(n: usize, m: usize, k: Stack) -> Checked
     ensures { λ r. ⌜ checkedOf r ≡ rules.toLine n m (stackOf k) ⌝ }
 {
-    if k.closed {
-        return Checked::Bad;
-    }
-    if k.before < n {
-        return Checked::Bad;
-    }
-    if k.operands == m {
-        if k.above == 0 {
-            return Checked::Good(counted(k, k.before - n, 0, 0, true));
-        }
+    if (n <= k.before) & (k.operands == m) & (k.above == 0) & !k.closed {
+        return Checked::Good(counted(k, k.before - n, 0, 0, true));
     }
     Checked::Bad
 }
 
-// `times` takes an expression from behind its content's line record.
+// `times` behind its content's line record: the expression below is its count.
 fn to_times(k: Stack) -> Checked
     ensures { λ r. ⌜ checkedOf r ≡ rules.checked 0 (stackOf k) LT ⌝ }
 {
-    if k.closed {
-        if 0 < k.before {
-            return Checked::Good(counted(k, k.before - 1, 0, 0, true));
-        }
+    if k.closed & (0 < k.before) {
+        return Checked::Good(counted(k, k.before - 1, 0, 0, true));
     }
     Checked::Bad
 }
@@ -252,12 +180,16 @@ fn to_statement(length: usize, k: Stack, p: usize) -> Checked
     Checked::Bad
 }
 
-fn given(b: bool, c: Checked, size: usize) -> Passed
-    ensures { λ r. ⌜ passedOf r ≡ sized size (rules.given b (checkedOf c)) ⌝ }
+// A record of n bytes behind its mark, if there are as many, and if its fields are good.
+fn given(s: &[u8], n: usize, b: bool, c: Checked) -> Passed
+    ensures { λ r. ⌜ passedOf r ≡ whole n (now (s .entry)) b (checkedOf c) ⌝ }
 {
+    if s.len() < n {
+        return Passed::Bad;
+    }
     if b {
         match c {
-            Checked::Good(k) => Passed::Record(k, size),
+            Checked::Good(k) => Passed::Record(k, n + 2),
             Checked::Bad => Passed::Bad,
         }
     } else {
@@ -265,70 +197,54 @@ fn given(b: bool, c: Checked, size: usize) -> Passed
     }
 }
 
-// LD's count is bounded by the bytes that are there.
-fn check_data(b: bool, s: &[u8], c: Checked) -> Passed
-    ensures { λ r. ⌜ passedOf r ≡ dataPassed b (now (s .entry)) (checkedOf c) ⌝ }
-{
-    let count = field(s, 2);
-    if s.len() < 12 {
-        return Passed::Bad;
-    }
-    if s.len() - 12 < count {
-        return Passed::Bad;
-    }
-    given(b & (0 < count), c, 14 + count)
-}
-
-// One record more, for a source of that length: its fields are at the head of s.
-fn check(m: Mark, s: &[u8], length: usize, k: Stack) -> Passed
+// One record more, for a source of that length: its other bytes are at the head of s.
+fn check(mark: usize, s: &[u8], length: usize, k: Stack) -> Passed
     requires { ⌜ heightOf k < 0x8000_0000_0000_0000 ⌝ }
-    ensures { λ r. ⌜ passedOf r ≡ passes length (stackOf k) (recordAs m (now (s .entry))) ⌝ }
+    ensures { λ r. ⌜ passedOf r ≡ passes length (stackOf k) (recordOf (lettersOf mark) (now (s .entry))) ⌝ }
 {
-    if s.len() < room(m) {
-        return Passed::Bad;
-    }
     let f = field(s, 0);
     let t = field(s, 1);
     let ok = spans(length, k, f, t);
-    match m {
-        Mark::ST => given(true, to_statement(length, k, f), 6),
-        Mark::VC => given(ok, to_expression(0, k), 14),
-        Mark::VL => given(ok, to_expression(0, k), 10),
-        Mark::VI => given(ok, to_expression(0, k), 10),
-        Mark::VS => given(ok, to_expression(0, k), 10),
-        Mark::PF => given(ok & (field(s, 2) < 2), to_expression(1, k), 14),
-        Mark::IN => given(ok & (field(s, 2) < 4), to_expression(2, k), 14),
-        Mark::OR => given(ok & (field(s, 2) < 16), to_operand(0, k), 14),
-        Mark::OS => given(ok & (field(s, 2) < 4), to_operand(0, k), 14),
-        Mark::OI => given(ok, to_operand(1, k), 10),
-        Mark::OF => given(ok, to_operand(2, k), 10),
-        Mark::OD => given(
-            ok & (field(s, 2) <= 2) & (field(s, 3) <= 4),
-            to_operand(1, k),
-            18,
-        ),
-        Mark::OX => {
-            let d = field(s, 3);
-            given(
-                ok & (field(s, 2) < 8) & (d <= 1) & (field(s, 4) <= 2) & (field(s, 5) <= 4),
-                to_operand(d, k),
-                26,
-            )
+    match mark {
+        ST => given(s, 4, true, to_statement(length, k, f)),
+        VC => given(s, 12, ok, to_expression(0, k)),
+        VL => given(s, 8, ok, to_expression(0, k)),
+        VI => given(s, 8, ok, to_expression(0, k)),
+        VS => given(s, 8, ok, to_expression(0, k)),
+        PF => given(s, 12, ok & (field(s, 2) < 2), to_expression(1, k)),
+        IN => given(s, 12, ok & (field(s, 2) < 4), to_expression(2, k)),
+        OR => given(s, 12, ok & (field(s, 2) < 16), to_operand(0, k)),
+        OS => given(s, 12, ok & (field(s, 2) < 4), to_operand(0, k)),
+        OI => given(s, 8, ok, to_operand(1, k)),
+        OF => given(s, 8, ok, to_operand(2, k)),
+        OD => {
+            let good = ok & (field(s, 2) <= 2) & (field(s, 3) <= 4);
+            given(s, 16, good, to_operand(1, k))
         }
-        Mark::LL => given(ok, to_line(0, 0, k), 10),
-        Mark::LI => {
+        OX => {
+            let d = field(s, 3);
+            let good = ok & (field(s, 2) < 8) & (d <= 1) & (field(s, 4) <= 2) & (field(s, 5) <= 4);
+            given(s, 24, good, to_operand(d, k))
+        }
+        LL => given(s, 8, ok, to_line(0, 0, k)),
+        LI => {
             let n = field(s, 3);
             let operands = spans(length, k, field(s, 4), field(s, 5));
             given(
+                s,
+                24,
                 ok & (field(s, 2) < 99) & (n <= 2) & operands,
                 to_line(0, n, k),
-                26,
             )
         }
-        Mark::LD => check_data(ok, s, to_line(0, 0, k)),
-        Mark::LC => given(ok, to_line(1, 0, k), 10),
-        Mark::LT => given((f == 0) & (t == 0), to_times(k), 10),
-        Mark::Other => Passed::Bad,
+        LD => {
+            // the count is bounded by the bytes that are there
+            let count = field(s, 2);
+            given(s, 12 + count, ok & (0 < count), to_line(0, 0, k))
+        }
+        LC => given(s, 8, ok, to_line(1, 0, k)),
+        LT => given(s, 8, (f == 0) & (t == 0), to_times(k)),
+        _ => Passed::Bad,
     }
 }
 
@@ -340,9 +256,10 @@ fn check_at(listing: &[u8], at: usize, length: usize, k: Stack) -> Passed
     if listing.len() - at < 2 {
         return Passed::Bad;
     }
-    let m = mark_of(listing[at], listing[at + 1]);
+    let a = listing[at] as usize;
+    let b = listing[at + 1] as usize;
     let from = at + 2;
-    check(m, &listing[from..], length, k)
+    check(256 * a + b, &listing[from..], length, k)
 }
 
 // Whether a listing is well-formed for a source of that length.
