@@ -1,7 +1,7 @@
 // The check of a listing (41), in one pass over its bytes: record by record, with what stands of the statement as three counters.
 ghost use mathlib.Core.Path.{_≡_};
 ghost use mathlib.Core.List.{[], _∷_};
-ghost use Prim.Native.Nat.{_<_};
+ghost use Prim.Native.Nat.{_+_, _*_, _<_};
 ghost use lib.ListN as ListN;
 ghost use lib.ListN.{drop};
 ghost use Rattle.rules.specs.Records.{ST, LT};
@@ -67,7 +67,21 @@ enum Passed {
     Bad,
 }
 
-// A field, low byte first, or 0 where the bytes end before it does.
+// Two letters as a mark.
+fn marked(a: u8, b: u8) -> usize
+    ensures { λ r. ⌜ lettersOf r ≡ a ∷ b ∷ [] ⌝ }
+{
+    256 * (a as usize) + b as usize
+}
+
+// Four bytes as a number, low first.
+fn joined(a: u8, b: u8, c: u8, d: u8) -> usize
+    ensures { λ r. ⌜ (r ≡ a + 256 * (b + 256 * (c + 256 * d))) × (r < 4294967296) ⌝ }
+{
+    a as usize + 256 * (b as usize + 256 * (c as usize + 256 * (d as usize)))
+}
+
+// A field, or 0 where the bytes end before it does.
 fn field(s: &[u8], i: u8) -> usize
     ensures { λ r. ⌜ (r ≡ fieldAt i (now (s .entry))) × (r < 4294967296) ⌝ }
 {
@@ -75,11 +89,7 @@ fn field(s: &[u8], i: u8) -> usize
     if s.len() < at + 4 {
         return 0;
     }
-    let a = s[at] as usize;
-    let b = s[at + 1] as usize;
-    let c = s[at + 2] as usize;
-    let d = s[at + 3] as usize;
-    a + 256 * (b + 256 * (c + 256 * d))
+    joined(s[at], s[at + 1], s[at + 2], s[at + 3])
 }
 
 // place ≤ f ≤ t ≤ the source's length
@@ -256,10 +266,9 @@ fn check_at(listing: &[u8], at: usize, length: usize, k: Stack) -> Passed
     if listing.len() - at < 2 {
         return Passed::Bad;
     }
-    let a = listing[at] as usize;
-    let b = listing[at + 1] as usize;
+    let mark = marked(listing[at], listing[at + 1]);
     let from = at + 2;
-    check(256 * a + b, &listing[from..], length, k)
+    check(mark, &listing[from..], length, k)
 }
 
 // Whether a listing is well-formed for a source of that length.
