@@ -35,7 +35,7 @@ module _ (n : ℕ) (s : List ℕ) (b : Bool) (o : Option Stack) where
     unfolding whole given
     good e f = rw (le-leb n (length s) h, e, f)
 
-module _ (n : ℕ) (k : Stack) (s m : List ℕ) where
+module _ (n : ℕ) (k : Stack) (s : List ℕ) where
   behind : (j : ℕ) (r : Record) (b : Bool) (o : Option Stack) → (4 * j ≤ length s → given b o ≡ checked n k r) → whole (4 * j) s b o ≡ passes n k (having j s r)
   unfolding whole having
   behind j r b o f = go (leb (4 * j) (length s)) refl
@@ -45,18 +45,23 @@ module _ (n : ℕ) (k : Stack) (s m : List ℕ) where
       go true e = let z : 4 * j + 2 ≡ 2 + 4 * j = omega arith in rw (f (leb-true (4 * j) (length s) e), z)
       go false e = refl
 
+  -- the record with the mark m, which is the number x
+  marked : {m x : ℕ} {z : Option Sized} → m ≡ x → recordOf (lettersOf x) s ≡ z → passes n k z ≡ passes n k (recordOf (lettersOf m) s)
+  marked {z = z} e f = rw (e, f)
+
   -- a record of j fields
-  pub arm : (j : ℕ) (r : Record) (b : Bool) (o : Option Stack) → recordOf m s ≡ having j s r → (4 * j ≤ length s → given b o ≡ checked n k r) → whole (4 * j) s b o ≡ passes n k (recordOf m s)
-  arm j r b o e f = behind j r b o f ∙ sym (ap (passes n k) e)
+  pub arm : (j : ℕ) (r : Record) (b : Bool) (o : Option Stack) {m x : ℕ} → m ≡ x → recordOf (lettersOf x) s ≡ having j s r → (4 * j ≤ length s → given b o ≡ checked n k r)
+      → whole (4 * j) s b o ≡ passes n k (recordOf (lettersOf m) s)
+  arm j r b o x e f = behind j r b o f ∙ marked x e
 
   -- LT, whose fields have to be 0 0
-  pub arm-times : (b : Bool) (o : Option Stack) → recordOf m s ≡ (if eqb (nth 0 s) 0 && eqb (nth 1 s) 0 then (having 2 s LT) else none)
-      → (8 ≤ length s → b ≡ eqb (nth 0 s) 0 && eqb (nth 1 s) 0) → o ≡ checked n k LT → whole 8 s b o ≡ passes n k (recordOf m s)
+  pub arm-times : (b : Bool) (o : Option Stack) {m x : ℕ} → m ≡ x → recordOf (lettersOf x) s ≡ (if eqb (nth 0 s) 0 && eqb (nth 1 s) 0 then (having 2 s LT) else none)
+      → (8 ≤ length s → b ≡ eqb (nth 0 s) 0 && eqb (nth 1 s) 0) → o ≡ checked n k LT → whole 8 s b o ≡ passes n k (recordOf (lettersOf m) s)
   unfolding given
-  arm-times b o e f x = go (eqb (nth 0 s) 0 && eqb (nth 1 s) 0) f ∙ sym (ap (passes n k) e)
+  arm-times b o x e f y = go (eqb (nth 0 s) 0 && eqb (nth 1 s) 0) f ∙ marked x e
     where
       go : (q : Bool) → (8 ≤ length s → b ≡ q) → whole 8 s b o ≡ passes n k (if q then (having 2 s LT) else none)
-      go true g = behind 2 LT b o (λ h. rw (g h) x)
+      go true g = behind 2 LT b o (λ h. rw (g h) y)
       go false g = none-of (leb 8 (length s)) refl
         where
           none-of : (p : Bool) → leb 8 (length s) ≡ p → whole 8 s b o ≡ none
@@ -64,10 +69,10 @@ module _ (n : ℕ) (k : Stack) (s m : List ℕ) where
           none-of false i = short 8 s b o (leb-false 8 (length s) i)
 
   -- LD, with c bytes of data
-  pub arm-data : (c : ℕ) (b : Bool) (o : Option Stack) → recordOf m s ≡ dataAt s → c ≡ fieldAt 2 s → (8 ≤ length s → b ≡ spans n k (nth 0 s) (nth 1 s)) → o ≡ toLine 0 0 k
-      → whole (12 + c) s (b && ltb 0 c) o ≡ passes n k (recordOf m s)
+  pub arm-data : (c : ℕ) (b : Bool) (o : Option Stack) {m x : ℕ} → m ≡ x → recordOf (lettersOf x) s ≡ dataAt s → c ≡ fieldAt 2 s → (8 ≤ length s → b ≡ spans n k (nth 0 s) (nth 1 s)) → o ≡ toLine 0 0 k
+      → whole (12 + c) s (b && ltb 0 c) o ≡ passes n k (recordOf (lettersOf m) s)
   unfolding whole dataAt checked
-  arm-data c b o e d f x = go (leb (12 + nth 2 s) (length s)) refl ∙ sym (ap (passes n k) e)
+  arm-data c b o x e d f y = go (leb (12 + nth 2 s) (length s)) refl ∙ marked x e
     where
       less : length s < 12 + nth 2 s → length s < 12 + c
       less h = by (leb 12 (length s)) refl
@@ -84,13 +89,15 @@ module _ (n : ℕ) (k : Stack) (s m : List ℕ) where
           let v : c ≡ nth 2 s = d ∙ field-nth 2 s (omega arith) in
           let z : 12 + nth 2 s + 2 ≡ 14 + nth 2 s = omega arith in
           let l : length (take (nth 2 s) (drop 12 s)) ≡ nth 2 s = length-take-le (nth 2 s) (drop 12 s) (omega (arith, length-drop 12 s)) in
-          rw (v, i, z, l, f (omega arith), x)
+          rw (v, i, z, l, f (omega arith), y)
       go false i = rw (lt-leb (12 + c) (length s) (less (leb-false (12 + nth 2 s) (length s) i)))
 
--- the record with a mark that is a number; none, where it is no record's
-pub keyed : (s : List ℕ) {m k : ℕ} → m ≡ k → recordOf (lettersOf m) s ≡ recordOf (lettersOf k) s
-keyed s e = ap (λ (x : ℕ). recordOf (lettersOf x) s) e
+-- fields that need no test
+pub given-true : (o : Option Stack) → given true o ≡ o
+unfolding given
+given-true o = refl
 
+-- no record has the mark m
 unlike : (m a b : ℕ) → (m ≡ 256 * a + b → ⊥) → same (lettersOf m) (a ∷ b ∷ []) ≡ false
 unfolding same
 unlike m a b h = go (eqb (m / 256) a) refl (eqb (m % 256) b) refl
@@ -127,6 +134,23 @@ no-mark m s h₁₈ =
     let (h₂, vl) = h₃ in
     let (h₁, vc) = h₂ in
     let (h₀, st) = h₁ in
-    rw (unlike m 0x53 0x54 st, unlike m 0x56 0x43 vc, unlike m 0x56 0x4c vl, unlike m 0x56 0x49 vi, unlike m 0x56 0x53 vs, unlike m 0x50 0x46 pf, unlike m 0x49 0x4e in′,
-    unlike m 0x4f 0x52 or, unlike m 0x4f 0x53 os, unlike m 0x4f 0x49 oi, unlike m 0x4f 0x46 of, unlike m 0x4f 0x44 od, unlike m 0x4f 0x58 ox,
-    unlike m 0x4c 0x4c ll, unlike m 0x4c 0x49 li, unlike m 0x4c 0x44 ld, unlike m 0x4c 0x43 lc, unlike m 0x4c 0x54 lt)
+    rw (
+      unlike m 0x53 0x54 st,
+      unlike m 0x56 0x43 vc,
+      unlike m 0x56 0x4c vl,
+      unlike m 0x56 0x49 vi,
+      unlike m 0x56 0x53 vs,
+      unlike m 0x50 0x46 pf,
+      unlike m 0x49 0x4e in′,
+      unlike m 0x4f 0x52 or,
+      unlike m 0x4f 0x53 os,
+      unlike m 0x4f 0x49 oi,
+      unlike m 0x4f 0x46 of,
+      unlike m 0x4f 0x44 od,
+      unlike m 0x4f 0x58 ox,
+      unlike m 0x4c 0x4c ll,
+      unlike m 0x4c 0x49 li,
+      unlike m 0x4c 0x44 ld,
+      unlike m 0x4c 0x43 lc,
+      unlike m 0x4c 0x54 lt,
+    )

@@ -9,7 +9,7 @@ use Rattle.checker.proofs.to_times.Statement.{statement}
 use Rattle.checker.proofs.to_times.Tie as tie
 
 sub-counted : tie.Need-sub-counted
-sub-counted c = one-left _ _ (c .before .if1 .taken)
+sub-counted c = one-left (c .before .before .before .before .args .k .closed) _ (c .before .if1 .taken)
 
 counted-requires : tie.Need-counted-requires
 counted-requires c κs = search needs
