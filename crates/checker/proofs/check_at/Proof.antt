@@ -1,6 +1,7 @@
 -- Two bytes are the mark, and the others are behind it; with fewer there is no record.
 -- Assumes nothing.
 use mathlib.Core.Path.{sym, _∙_}
+use Prim.Native.Nat.{_+_}
 use native.Mathlib.Omega.{arith}
 use borrow.Author.Needs.{needs}
 use lib.ListN.{length-drop}
@@ -42,7 +43,9 @@ check-requires : tie.Need-check-requires
 check-requires c κs = search needs
 
 returns-2 : tie.Need-returns-2
-returns-2 c = c .check .ensures ∙ next-at _ _ (c .before .before .before .before .before .before .before .args .listing .now) (c .before .before .before .before .before .before .before .args .at) _ _ (omega (arith, c .before .before .before .before .before .if1 .left)) (c .before .before .marked .ensures) (rest-of _ _)
+returns-2 c =
+    let a = c .before .before .before .before .before .before .before .args in
+    c .check .ensures ∙ next-at _ _ (a .listing .now) (a .at) _ _ (omega (arith, c .before .before .before .before .before .if1 .left)) (c .before .before .marked .ensures) (rest-of (a .listing .now) (a .at + 2))
 
 pub check-at-spec : {M : Type 1} → statement M
 check-at-spec = tie.close (tie.spec sub-if1 returns shared-slice-read-marked add-marked shared-slice-read-marked-2 marked-requires add-from sub-check part-check-start part-check-end check-requires returns-2)
