@@ -1,5 +1,5 @@
 -- A record that the rules read and check, as the code does it: the test for room, the tests of its fields, and the stack behind it.
-use mathlib.Core.Path.{_≡_, refl, sym, ap, _∙_}
+use mathlib.Core.Path.{_≡_, refl, _∙_}
 use mathlib.Core.Bool.{Bool, true, false, _&&_}
 use mathlib.Core.List.{List, [], _∷_}
 use mathlib.Core.Option.{Option, none, some}
@@ -14,7 +14,7 @@ use Rattle.rules.specs.Records.{Record, LD, LT}
 use Rattle.rules.specs.Decode.{Sized, nth, having, dataAt, recordOf}
 use Rattle.rules.specs.WellFormed.{Stack, given, spans, checked, toLine}
 use Rattle.checker.specs.Checker.{Pass, lettersOf, fieldAt, sized, passes, whole}
-use Rattle.checker.proofs.Fields.{field-nth, field-none}
+use Rattle.checker.proofs.Fields.{field-nth}
 
 -- a record of n bytes: it has no room; its fields are not good; the stack says no; it is good
 module _ (n : ℕ) (s : List ℕ) (b : Bool) (o : Option Stack) where

@@ -1,20 +1,18 @@
 -- One record more: what the rules say of the bytes from it on is what they say of the bytes behind it, with the stack behind it; and a
 -- record that isn't one, or that the stack refuses, settles the whole.
-use mathlib.Core.Path.{_≡_, refl, sym, ap, ap₂, _∙_}
+use mathlib.Core.Path.{_≡_, refl, sym, ap, _∙_}
 use mathlib.Core.Bool.{Bool, true, false, _&&_}
 use mathlib.Core.List.{List, [], _∷_}
 use mathlib.Core.Option.{Option, none, some}
 use Prim.Native.Nat.{ℕ, zero, suc, pred, _+_, _*_, _-_, _≤_, _<_, zero-le}
 use native.Mathlib.Omega.{arith}
-use native.Mathlib.Numerals.{add-one}
 use lib.Dec.{eqb, leb}
 use Prim.Native.String.{String}
 use lib.ListN.{length, take, drop, getD, length-drop}
 use lib.Seq.{drop-drop, drop-cons, drop-length, take-all}
 use borrow.Author.Tests.{leb-true}
 use Rattle.lexer.specs.Text.{if_then_else_, maybe, bytes, same}
-use Rattle.lexer.proofs.Branches.{either}
-use Rattle.lexer.proofs.Branches.{given as under}
+use Rattle.lexer.proofs.Branches.{either, given as under}
 use Rattle.rules.specs.Records.{Record, ST, VC, VL, VI, VS, PF, IN, OR, OS, OI, OF, OD, OX, LL, LI, LD, LC, LT}
 use Rattle.rules.specs.Decode.{Sized, nth, having, dataAt, recordOf, also, recordsFrom, decode}
 use Rattle.rules.specs.WellFormed.{Stack, stack, allow, toExpression, toOperand, toLine, complete, given, checked, checkedAll, fresh, wellFormed}

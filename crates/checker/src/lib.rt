@@ -99,6 +99,7 @@ fn spans(length: usize, k: Stack, f: usize, t: usize) -> bool
     (k.place <= f) & (f <= t) & (t <= length)
 }
 
+// The same statement with other counters.
 fn counted(k: Stack, before: usize, operands: usize, above: usize, closed: bool) -> Stack
     ensures { λ r. ⌜ stackOf r ≡ rules.stack (stackOf k) before operands above closed ⌝ }
 {
@@ -173,6 +174,7 @@ fn complete(k: Stack) -> bool
     k.closed & (k.before == 0)
 }
 
+// A statement begins: the one before is complete, and places rise.
 fn to_statement(length: usize, k: Stack, p: usize) -> Checked
     requires { ⌜ p < 4294967296 ⌝ }
     ensures { λ r. ⌜ checkedOf r ≡ rules.checked length (stackOf k) (ST p) ⌝ }
