@@ -92,11 +92,11 @@ module _ {L : Level} {s : List ℕ} {p q : Parser} {A : Type 0} {m : Reader (On 
     pub called : {l₂ : List ℕ} {q₂ : Parser} {w₂ : ℕ} {b : B} → Gives L s q m₁ w l₁ l₂ q₂ w₂ b → Sofar L s p m i l q₂ (k b) w₂ l₂
     unfolding _>>=_ thence
     called {l₂} {q₂} {w₂} {b} on = record {
-      v = so .v ++ on .v;
-      reads = so .reads ∙ ap (λ (o : Answer (On L) B). after (so .v) (thence o k)) (on .reads) ∙ after-after (so .v) (on .v) (k b (view L s q₂));
-      kept = kept-on L s p q q₂ (so .kept) (on .kept);
-      wrote = then-records (so .v) (on .v) (so .wrote) (on .wrote);
-    }
+        v = so .v ++ on .v;
+        reads = so .reads ∙ ap (λ (o : Answer (On L) B). after (so .v) (thence o k)) (on .reads) ∙ after-after (so .v) (on .v) (k b (view L s q₂));
+        kept = kept-on L s p q q₂ (so .kept) (on .kept);
+        wrote = then-records (so .v) (on .v) (so .wrote) (on .wrote);
+      }
 
     pub called-denied : {r : Refusal} → Denies L s q m₁ r → Denies L s p m r
     unfolding _>>=_ thence

@@ -150,7 +150,7 @@ module _ (s : List ℕ) (at : ℕ) where
             let z : eqb (byteOf here) 0 ≡ false = never-end here (tokenAt-in-range (drop at s)) (b .0) in
             let n : at + sizeOf here - at ≡ sizeOf here = omega arith in
             let f : kindBy (byteOf here) (valueOf here) (take (sizeOf here) (drop at s)) ≡ kindOf here (drop at s) =
-            flat-kind here (tokenAt-in-range (drop at s)) (drop at s) (tokenAt-le (drop at s)) (is-gap ∙ g) (eqb-false _ _ z) in
+              flat-kind here (tokenAt-in-range (drop at s)) (drop at s) (tokenAt-le (drop at s)) (is-gap ∙ g) (eqb-false _ _ z) in
             inside-step (ltb-true _ _ h) ∙ rw (is-gap ∙ g, i, j, l, z, n, f)
         go false h =
             let z : k ≡ 0 = i ∙ ap byteOf (at-end (ltb-false _ _ h)) in

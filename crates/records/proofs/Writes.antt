@@ -42,19 +42,19 @@ nothing at l = record { long = refl; grows = le-refl at; place = λ _. sym (add-
 pub follows : {at w r : ℕ} (a b : List ℕ) {l l₁ l₂ : List ℕ} → Wrote at a l l₁ w → Wrote w b l₁ l₂ r → Wrote at (a ++ b) l l₂ r
 unfolding stores
 follows {at} {w} {r} a b {l} {l₁} {l₂} x y = record {
-  long = y .long ∙ x .long;
-  grows = le-trans (x .grows) (y .grows);
-  place = λ h.
+    long = y .long ∙ x .long;
+    grows = le-trans (x .grows) (y .grows);
+    place = λ h.
       let k : length (a ++ b) ≡ length a + length b = length-append a b in
       let e : w ≡ at + length a = x .place (omega arith) in
       y .place (omega arith) ∙ omega arith;
-  wrote = λ h f.
+    wrote = λ h f.
       let k : length (a ++ b) ≡ length a + length b = length-append a b in
       let e : w ≡ at + length a = x .place (omega arith) in
       let e₁ : l₁ ≡ sets l at a = x .wrote (omega arith) (omega arith) in
       let e₂ : l₂ ≡ sets l₁ w b = y .wrote (omega arith) (omega (arith, x .long)) in
       e₂ ∙ rw (e₁, e) (sym (sets-append l at a b));
-}
+  }
 
 -- bytes stored one after the other by straight-line code
 pub two : (l : List ℕ) (i a b : ℕ) → set (set l i a) (i + 1) b ≡ stores l i (a ∷ b ∷ [])
