@@ -7,8 +7,15 @@ ghost use Rattle.lexer.specs.Text.{isDigit, digit};
 ghost use Rattle.lexer.specs.Tokens.{tokenAt, numberAt, suffixed, prefixed, digits, stringAfter};
 ghost use Rattle.lexer.specs.Runs.{belongs};
 ghost use Rattle.lexer.specs.Scanned.{isMark, scannedOf, tokenOf, nextOf};
-
-use text::{Class, Value, char_at, from_radix, is_decimal_digit, is_identifier_first, is_letter, is_whitespace, run_end};
+use text::Class;
+use text::Value;
+use text::char_at;
+use text::from_radix;
+use text::is_decimal_digit;
+use text::is_identifier_first;
+use text::is_letter;
+use text::is_whitespace;
+use text::run_end;
 
 mod text;
 
@@ -64,15 +71,25 @@ pub struct Scanned {
 }
 
 pub const END_OF_FILE: u8 = 0;
+
 pub const NEW_LINE: u8 = b'\n';
+
 pub const WHITESPACE: u8 = b' ';
+
 pub const COMMENT: u8 = b';';
+
 pub const IDENTIFIER: u8 = b'a';
+
 pub const NUMBER: u8 = b'0';
+
 pub const CLOSED: u8 = b'\'';
+
 pub const UNCLOSED: u8 = b'"';
+
 pub const INVALID: u8 = b'!';
+
 pub const LARGER_DIGIT: u8 = 30;
+
 pub const TOO_LARGE: u8 = 31;
 
 // The digits of a base and a class behind the prefix that stands at `at`.
@@ -198,7 +215,18 @@ fn string_literal(source: &[u8], at: usize) -> Scanned
 fn is_punctuation(c: u8) -> bool
     ensures { λ r. ⌜ r ≡ isMark c ⌝ }
 {
-    (c == b':') | (c == b',') | (c == b'$') | (c == b'.') | (c == b'[') | (c == b']') | (c == b'(') | (c == b')') | (c == b'+') | (c == b'-') | (c == b'*') | (c == b'/')
+    (c == b':')
+        | (c == b',')
+        | (c == b'$')
+        | (c == b'.')
+        | (c == b'[')
+        | (c == b']')
+        | (c == b'(')
+        | (c == b')')
+        | (c == b'+')
+        | (c == b'-')
+        | (c == b'*')
+        | (c == b'/')
 }
 
 // The token at a place; beyond the end, the end of file.

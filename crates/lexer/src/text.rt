@@ -60,7 +60,11 @@ pub fn is_letter(c: u8, small: u8, capital: u8) -> bool
 pub fn char_at(source: &[u8], index: usize) -> u8
     ensures { λ r. ⌜ r ≡ getD (now (source .entry)) index 0 ⌝ }
 {
-    if index < source.len() { source[index] } else { 0 }
+    if index < source.len() {
+        source[index]
+    } else {
+        0
+    }
 }
 
 // The classes that runs are made of. `Quoted` is what stands between quotes, `Comment` what stands behind a semicolon.

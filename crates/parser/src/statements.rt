@@ -405,13 +405,7 @@ pub fn start(src: &[u8], place: u32) -> Step
 }
 
 // Statements until none is left: the place behind all records.
-pub fn statements(
-    src: &[u8],
-    table: &[u8; 936],
-    out: &mut [u8],
-    at: u32,
-    p: Parser,
-) -> Parsed
+pub fn statements(src: &[u8], table: &[u8; 936], out: &mut [u8], at: u32, p: Parser) -> Parsed
     requires { ⌜ (length (now src) ≤ 65536) × (keys.goodTable (now table) ≡ true) ⌝ }
     ensures { λ r. ⌜ answers.ReadsStatements (now (table .entry)) (now (src .entry)) p at (now (out .entry)) (now (out .exit)) r ⌝ }
 {

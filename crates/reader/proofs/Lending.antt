@@ -175,6 +175,7 @@ module _ (s : List ℕ) (p : ℕ) where
       where
         short : (length s ≤ 65536) × (p ≤ length s)
         short = let b = lentAt-accepted s (tokenRead p (tokenAt (drop p s))) p a in (b .1, b .3)
+
         go : (x : TokenRead) → sizeOf x ≤ length (drop p s) → next.Refused f i j ≡ nextOf p x → (i ≤ 65536) × (j ≤ 65536)
         go (found.Read u) k e = let z : _≡_ {A = ℕ} 0 1 = cc in absurd (omega arith)
         go (found.Refused n g) k e = let l : i ≡ p = cc in let m : j ≡ p + n = cc in let q = length-drop p s in (omega (arith, short), omega (arith, short))

@@ -177,7 +177,13 @@ pub fn full_read(source: &[u8], out: &mut [u8]) -> FullAnswer
 }
 
 // Measured first, and written where it fits.
-fn one_statement(source: &[u8], place: u32, table: &[u8; 936], out: &mut [u8], p: Parser) -> StatementAnswer
+fn one_statement(
+    source: &[u8],
+    place: u32,
+    table: &[u8; 936],
+    out: &mut [u8],
+    p: Parser,
+) -> StatementAnswer
     requires { ⌜ (length (now source) ≤ 65536) × (foreignPlace (now source) ≡ length (now source)) × (place ≤ length (now source)) × (now table ≡ operations) × Started (now source) place p ⌝ }
     ensures { λ r. ⌜ OneRead (now (source .entry)) place (now (out .entry)) (now (out .exit)) r ⌝ }
 {

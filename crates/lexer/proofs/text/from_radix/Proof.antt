@@ -17,7 +17,7 @@ use Rattle.lexer.proofs.text.from_radix.Lts as lts
 use Rattle.lexer.proofs.text.digit_value.Reads as digit-value-reads
 
 abbrev Inv-loop : tie.InvT-loop
-Inv-loop source from to base v₀ i₀ v i = 
+Inv-loop source from to base v₀ i₀ v i =
     (i ≤ to) × (v ≤ 2147483647) × (valuedFrom v base (take (to - i) (drop i source)) ≡ valuedFrom 0 base (take (to - from) (drop from source)))
 
 abbrev μ-loop : tie.MeasureT-loop
