@@ -1,0 +1,4 @@
+pub mod Fields
+pub mod Arms
+pub mod Stacks
+pub mod Walk

@@ -1,0 +1,41 @@
+-- The tests are the rule's, in its order.
+-- Assumes nothing.
+use mathlib.Core.Path.{sym, ap, _∙_}
+use mathlib.Core.Option.{some}
+use borrow.Author.Needs.{needs}
+use borrow.Author.Tests.{eq-eqb, ne-eqb}
+use Rattle.rules.specs.WellFormed.{toOperand}
+use Rattle.checker.proofs.Stacks.{first, later, allowed, denied, enough}
+use Rattle.checker.proofs.to_operand.Statement.{statement}
+use Rattle.checker.proofs.to_operand.Tie as tie
+
+sub-counted : tie.Need-sub-counted
+sub-counted c = enough _ _ _ (c .before .if2 .taken)
+
+counted-requires : tie.Need-counted-requires
+counted-requires c κs = search needs
+
+returns : tie.Need-returns
+unfolding toOperand
+returns c = ap some (c .counted .ensures) ∙ sym (first _ _ _ (c .before .before .before .before .before .if1 .taken) ∙ allowed _ _ (c .before .before .if2 .taken))
+
+returns-2 : tie.Need-returns-2
+unfolding toOperand
+returns-2 c = sym (first _ _ _ (c .before .before .before .if1 .taken) ∙ denied _ _ (c .if2 .left))
+
+add-counted : tie.Need-add-counted
+add-counted c = search needs
+
+counted-requires-2 : tie.Need-counted-requires-2
+counted-requires-2 c κs = search needs
+
+returns-3 : tie.Need-returns-3
+unfolding toOperand
+returns-3 c = ap some (c .counted2 .ensures) ∙ sym (later _ _ _ (c .before .before .before .before .if1 .left) ∙ allowed _ _ (eq-eqb _ _ (c .before .before .if3 .taken)))
+
+returns-4 : tie.Need-returns-4
+unfolding toOperand
+returns-4 c = sym (later _ _ _ (c .before .before .if1 .left) ∙ denied _ _ (ne-eqb _ _ (c .if3 .left)))
+
+pub to-operand-spec : {M : Type 1} → statement M
+to-operand-spec = tie.close (tie.spec sub-counted counted-requires returns returns-2 add-counted counted-requires-2 returns-3 returns-4)

@@ -1,0 +1,3 @@
+pub mod Lending
+pub mod FullReads
+pub mod OneReads
