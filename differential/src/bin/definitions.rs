@@ -1,0 +1,116 @@
+//! Writes the recorded reads as rows over the rules' definitions: a crate of specs whose claims the checker computes.
+//! Argument: the folder of that crate.
+use std::{env, fmt::Write, fs, path::Path};
+
+const ROWS: usize = 40; // in a module
+
+fn unescaped(text: &str) -> Vec<u8> {
+    let mut bytes = Vec::new();
+    let mut rest = text.bytes();
+    while let Some(byte) = rest.next() {
+        if byte != b'\\' {
+            bytes.push(byte);
+            continue;
+        }
+        match rest.next() {
+            Some(b'n') => bytes.push(b'\n'),
+            Some(b'r') => bytes.push(b'\r'),
+            Some(b't') => bytes.push(b'\t'),
+            Some(b'x') => {
+                let digits = [rest.next().unwrap(), rest.next().unwrap()];
+                bytes.push(u8::from_str_radix(std::str::from_utf8(&digits).unwrap(), 16).unwrap());
+            }
+            Some(other) => bytes.push(other),
+            None => panic!("a row ends in a backslash"),
+        }
+    }
+    bytes
+}
+
+fn list<T: std::fmt::Display>(items: impl IntoIterator<Item = T>) -> String {
+    let mut text = String::from("(");
+    for item in items {
+        write!(text, "{item} ∷ ").unwrap();
+    }
+    text + "[])"
+}
+
+fn record(text: &str) -> String {
+    let mut fields = text.split(' ');
+    let mark = fields.next().unwrap();
+    let fields: Vec<&str> = fields.collect();
+    match mark {
+        "LT" => "LT".to_string(),
+        "LD" => format!("LD {} {} {}", fields[0], fields[1], list(&fields[3..])),
+        _ => format!("{mark} {}", fields.join(" ")),
+    }
+}
+
+fn answer(text: &str) -> String {
+    if let Some(numbers) = text.strip_prefix("REF ") {
+        let n: Vec<&str> = numbers.split(' ').collect();
+        return match n[0] {
+            "25" => format!("refuses (encoding {} {} {} {})", n[1], n[2], n[3], n[4]),
+            "1" | "22" => format!("refuses (nowhere {})", n[0]),
+            _ => format!("refuses (at {} {} {})", n[0], n[1], n[2]),
+        };
+    }
+    let records = text.split("; ").filter(|r| !r.starts_with("END")).map(record);
+    format!("gives {}", list(records))
+}
+
+fn main() {
+    let folder = env::args().nth(1).expect("the folder of the crate");
+    let folder = Path::new(&folder);
+    let recorded = Path::new(env!("CARGO_MANIFEST_DIR")).join("recorded/reads.txt");
+    let rows: Vec<String> = fs::read_to_string(recorded)
+        .unwrap()
+        .lines()
+        .map(|line| {
+            let (source, said) = line.rsplit_once('\t').expect("a tab between source and answer");
+            format!("row {} ({})", list(unescaped(source)), answer(said))
+        })
+        .collect();
+    fs::create_dir_all(folder.join("specs")).unwrap();
+    fs::create_dir_all(folder.join("src")).unwrap();
+    fs::write(folder.join("src/lib.rt"), "// The recorded reads, computed by the definitions.\n").unwrap();
+    let mut root = String::new();
+    for (k, rows) in rows.chunks(ROWS).enumerate() {
+        writeln!(root, "pub mod Rows{k}").unwrap();
+        let claims = rows.iter().fold("tt".to_string(), |rest, _| format!("(refl, {rest})"));
+        let text = format!(
+            "use mathlib.Core.Path.{{_≡_, refl}}
+use mathlib.Core.List.{{List, [], _∷_}}
+use Prim.Native.Nat.{{ℕ}}
+use Rattle.names.specs.Table.{{operations, spellings, row as tableRow, rowsOf}}
+use Rattle.rules.specs.Records.{{Record, ST, VC, VL, VI, VS, PF, IN, OR, OS, OI, OF, OD, OX, LL, LI, LD, LC, LT}}
+use Rattle.rules.specs.Reader.{{at, nowhere, encoding}}
+use Rattle.rules.specs.Calls.{{Result, gives, refuses, fullCall, openCalls}}
+
+pub record Row : Type 0 where
+  pub source : List ℕ
+  pub answer : Result (List Record)
+
+abbrev pub row : List ℕ → Result (List Record) → Row
+row s a = record {{ source = s; answer = a }}
+
+unfoldable pub rows : List Row
+rows =
+    {}
+    ∷ []
+
+unfoldable pub Agree : List Row → Type 0
+Agree [] = Unit {{0}}
+Agree (r ∷ rs) = (fullCall operations (r .source) 1000000 ≡ r .answer) × Agree rs
+
+pub agree : Agree rows
+unfolding openCalls spellings tableRow rowsOf operations rows Agree
+agree = {claims}
+",
+            rows.join("\n    ∷ ")
+        );
+        fs::write(folder.join(format!("specs/Rows{k}.antt")), text).unwrap();
+    }
+    fs::write(folder.join("specs/Lib.antt"), root).unwrap();
+    println!("{} recorded reads", rows.len());
+}
