@@ -1,3 +1,4 @@
 pub mod Writes
 pub mod Digits
 pub mod Shapes
+pub mod Records

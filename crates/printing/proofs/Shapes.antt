@@ -7,7 +7,7 @@ use mathlib.Core.Option.{Option, none, some}
 use native.Mathlib.Omega.{arith}
 use lib.Dec.{eqb, leb}
 use lib.ListN.{length, take, drop, getD, length-drop}
-use lib.Seq.{length-take-le}
+use lib.Seq.{length-take-le, take-all}
 use borrow.Author.Tests.{leb-true, lt-leb, le-leb, eqb-true, eq-eqb, ne-eqb}
 use Rattle.lexer.specs.Text.{if_then_else_, bytes, same}
 use Rattle.rules.specs.Records.{Record, VC, LD, LT}
@@ -172,3 +172,10 @@ pub two-letters : (s : List ℕ) → 2 ≤ length s → take 2 s ≡ getD s 0 0 
 two-letters [] h = absurd (omega arith)
 two-letters (a ∷ []) h = absurd (omega arith)
 two-letters (a ∷ b ∷ s) h = refl
+
+-- a slice from a place on is the rest
+pub tail : (k : ℕ) (s : List ℕ) → take (length s - k) (drop k s) ≡ drop k s
+tail k s = take-all (length s - k) (drop k s) (omega (arith, length-drop k s))
+
+pub whole-line : (s : List ℕ) (f : List ℕ → List ℕ) → 2 ≤ length s → (getD s 0 0 ∷ getD s 1 0 ∷ f (take (length s - 2) (drop 2 s))) ++ bytes "\n" ≡ take 2 s ++ f (drop 2 s) ++ bytes "\n"
+whole-line s f h = rw (tail 2 s, two-letters s h)

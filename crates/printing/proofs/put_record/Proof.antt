@@ -1,4 +1,17 @@
+-- The shape says which record stands there; its parts are written one behind the other.
+use Prim.Native.Nat.{ℕ, _+_, _*_, _-_}
+use mathlib.Core.Path.{_≡_, refl}
+use mathlib.Core.List.{List, _++_}
 use borrow.Author.Needs.{needs}
+use native.Mathlib.Omega.{arith}
+use denote.Ref.{now}
+use lib.ListN.{take, drop, length-drop}
+use Rattle.lexer.specs.Text.{bytes}
+use Rattle.rules.specs.Decode.{nth}
+use Rattle.printing.specs.Text.{numbers, signed}
+use Rattle.printing.specs.Lines.{nths, Lined, Shaped}
+use Rattle.printing.proofs.Writes.{follows, reads-as}
+use Rattle.printing.proofs.Shapes.{no-mark, printed, two-letters, tail, whole-line}
 use Rattle.printing.proofs.put_record.Statement.{statement}
 use Rattle.printing.proofs.put_record.Tie as tie
 use Rattle.printing.proofs.put_record.Reads as reads
@@ -11,149 +24,148 @@ use Rattle.printing.proofs.text.put.Reads as put-reads
 use Rattle.printing.proofs.text.put_numbers.Reads as put-numbers-reads
 use Rattle.printing.proofs.text.put_signed.Reads as put-signed-reads
 
--- src/lib.rt:173:9
-returns : tie.Need-returns
-returns c = ?
+-- the shape is that of the mark and the rest of s
+shaped : (c : tie.After-shape-of) → let s = now (c .before .before .before .before .before .before .before .before .args .s) in Shaped (take 2 s) (drop 2 s) (c .shape-of .result)
+shaped c =
+    let s = now (c .before .before .before .before .before .before .before .before .args .s) in
+    let h = c .before .before .before .before .before .if1 .left in
+    rw (two-letters s h, ← tail 2 s, ← c .before .mark-of .ensures) (c .shape-of .ensures)
 
--- src/lib.rt:175:13
+-- and so the record of each arm is known
+fields′ : (c : tie.After-n) → let s = now (c .before .before .before .before .before .before .before .before .before .before .args .s) in let n = c .n .given .0 .0 in Lined (take 2 s) (drop 2 s) (4 * n) (numbers (nths n (drop 2 s)))
+fields′ c = rw (c .n .given .1) at (shaped (c .before .before))
+
+value : (c : tie.After-enum-told) → let s = now (c .before .before .before .before .before .before .before .before .before .before .args .s) in Lined (take 2 s) (drop 2 s) 12 (numbers (nths 2 (drop 2 s)) ++ bytes " " ++ signed (nth 2 (drop 2 s)))
+value c = rw (c .enum-told .given .1) at (shaped (c .before .before))
+
+data′ : (c : tie.After-n2) → let s = now (c .before .before .before .before .before .before .before .before .before .before .args .s) in let n = c .n2 .given .0 .0 in Lined (take 2 s) (drop 2 s) (12 + n) (numbers (nths 3 (drop 2 s)) ++ numbers (take n (drop 12 (drop 2 s))))
+data′ c = rw (c .n2 .given .1) at (shaped (c .before .before))
+
+returns : tie.Need-returns
+returns c = (no-mark (now (c .before .before .before .args .s)) (c .if1 .taken), refl)
+
 shared-slice-read-a : tie.Need-shared-slice-read-a
 shared-slice-read-a c = search needs
 
--- src/lib.rt:176:13
 shared-slice-read-b : tie.Need-shared-slice-read-b
 shared-slice-read-b c = search needs
 
--- src/lib.rt:177:16
 sub-rest : tie.Need-sub-rest
 sub-rest c = search needs
 
--- src/lib.rt:177:16
 part-rest-start : tie.Need-part-rest-start
 part-rest-start c = search needs
 
--- src/lib.rt:177:16
 part-rest-end : tie.Need-part-rest-end
 part-rest-end c = search needs
 
--- src/lib.rt:178:20
 mark-of-requires : tie.Need-mark-of-requires
 mark-of-requires c κs = search needs
 
--- src/lib.rt:178:11
 shape-of-requires : tie.Need-shape-of-requires
 shape-of-requires c κs = search needs
 
--- src/lib.rt:179:23
 enum-known-n : tie.Need-enum-known-n
 enum-known-n c = search needs
 
--- src/lib.rt:180:17
 put-fields-requires : tie.Need-put-fields-requires
-put-fields-requires c κs = ?
+put-fields-requires c κs = rw (tail 2 (now (c .before .before .before .before .before .before .before .before .before .before .before .before .args .s))) ((fields′ (c .before .before)) .fits)
 
--- src/lib.rt:181:30
 mul-t28 : tie.Need-mul-t28
-mul-t28 c = ?
+mul-t28 c = omega (arith, fields′ (c .before .before .before .before .before) .fits, length-drop 2 (now (c .before .before .before .before .before .before .before .before .before .before .before .before .before .before .before .args .s)))
 
--- src/lib.rt:181:26
 add-t29 : tie.Need-add-t29
-add-t29 c = ?
+add-t29 c = omega (arith, fields′ (c .before .before .before .before .before) .fits, length-drop 2 (now (c .before .before .before .before .before .before .before .before .before .before .before .before .before .before .before .args .s)), c .before .before .before .before .before .before .before .before .before .before .before .before .if1 .left)
 
--- src/lib.rt:181:37
 put-requires : tie.Need-put-requires
 put-requires c κs = search needs
 
--- src/lib.rt:184:33
 enum-told : tie.Need-enum-told
 enum-told c = search needs
 
--- src/lib.rt:184:17
 put-fields-requires-2 : tie.Need-put-fields-requires-2
-put-fields-requires-2 c κs = ?
+put-fields-requires-2 c κs = rw (tail 2 (now (c .before .before .before .before .before .before .before .before .before .before .before .args .s))) (omega (arith, value (c .before) .fits))
 
--- src/lib.rt:185:17
 put-requires-2 : tie.Need-put-requires-2
 put-requires-2 c κs = search needs
 
--- src/lib.rt:186:42
 field-requires : tie.Need-field-requires
-field-requires c κs = ?
+field-requires c κs = rw (tail 2 (now (c .before .before .before .before .before .before .before .before .before .before .before .before .before .before .before .before .before .before .before .args .s))) (value (c .before .before .before .before .before .before .before .before .before) .fits)
 
--- src/lib.rt:186:17
 put-signed-requires : tie.Need-put-signed-requires
 put-signed-requires c κs = search needs
 
--- src/lib.rt:187:30
 put-requires-3 : tie.Need-put-requires-3
 put-requires-3 c κs = search needs
 
--- src/lib.rt:189:21
 enum-known-n-2 : tie.Need-enum-known-n-2
 enum-known-n-2 c = search needs
 
--- src/lib.rt:190:17
 put-fields-requires-3 : tie.Need-put-fields-requires-3
-put-fields-requires-3 c κs = ?
+put-fields-requires-3 c κs = rw (tail 2 (now (c .before .before .before .before .before .before .before .before .before .before .before .before .args .s))) (omega (arith, data′ (c .before .before) .fits))
 
--- src/lib.rt:191:23
 add-end : tie.Need-add-end
-add-end c = ?
+add-end c = omega (arith, data′ (c .before .before .before .before .before) .fits, length-drop 2 (now (c .before .before .before .before .before .before .before .before .before .before .before .before .before .before .before .args .s)))
 
--- src/lib.rt:192:43
 sub-put-numbers : tie.Need-sub-put-numbers
 sub-put-numbers c = search needs
 
--- src/lib.rt:192:43
 part-put-numbers-start : tie.Need-part-put-numbers-start
 part-put-numbers-start c = search needs
 
--- src/lib.rt:192:43
 part-put-numbers-end : tie.Need-part-put-numbers-end
-part-put-numbers-end c = ?
+part-put-numbers-end c = rw (tail 2 (now (c .before .before .before .before .before .before .before .before .before .before .before .before .before .before .before .before .args .s))) (data′ (c .before .before .before .before .before .before) .fits)
 
--- src/lib.rt:192:17
 put-numbers-requires : tie.Need-put-numbers-requires
 put-numbers-requires c κs = search needs
 
--- src/lib.rt:193:26
 add-t48 : tie.Need-add-t48
-add-t48 c = ?
+add-t48 c = omega (arith, data′ (c .before .before .before .before .before .before .before .before .before .before) .fits, length-drop 2 (now (c .before .before .before .before .before .before .before .before .before .before .before .before .before .before .before .before .before .before .before .before .args .s)), c .before .before .before .before .before .before .before .before .before .before .before .before .before .before .before .before .before .if1 .left)
 
--- src/lib.rt:193:35
 put-requires-4 : tie.Need-put-requires-4
 put-requires-4 c κs = search needs
 
--- src/lib.rt:195:27
 enum-told-2 : tie.Need-enum-told-2
 enum-told-2 c = search needs
 
--- src/lib.rt:169:1
 same-length : tie.Need-same-length
 same-length c = search needs
 
--- src/lib.rt:169:1
 returns-2 : tie.Need-returns-2
-returns-2 c = ?
+unfolding bytes
+returns-2 c =
+    let s = now (c .before .before .before .before .before .before .before .before .before .before .before .before .before .before .before .before .before .before .before .args .s) in
+    let n = c .before .before .before .before .before .before .before .before .before .n .given .0 .0 in
+    let h = c .before .before .before .before .before .before .before .before .before .before .before .before .before .before .before .before .if1 .left in
+    printed s _ _ h (fields′ (c .before .before .before .before .before .before .before .before .before)) (reads-as (whole-line s (λ r. numbers (nths n r)) h) (follows _ _ (c .before .before .before .before .before .before .put-fields .ensures) (c .before .before .put .ensures)))
 
--- src/lib.rt:169:1
 same-length-2 : tie.Need-same-length-2
 same-length-2 c = search needs
 
--- src/lib.rt:169:1
 returns-3 : tie.Need-returns-3
-returns-3 c = ?
+unfolding bytes
+returns-3 c =
+    let s = now (c .before .before .before .before .before .before .before .before .before .before .before .before .before .before .before .before .before .before .before .before .before .before .before .before .before .before .before .args .s) in
+    let h = c .before .before .before .before .before .before .before .before .before .before .before .before .before .before .before .before .before .before .before .before .before .before .before .before .if1 .left in
+    let x = follows _ _ (c .before .before .before .before .before .before .before .before .before .before .before .before .before .before .before .put-fields2 .ensures) (c .before .before .before .before .before .before .before .before .before .before .before .put2 .ensures) in
+    let y = follows _ _ x (rw (c .before .before .before .before .before .before .before .field .ensures) at (c .before .before .before .before .before .before .put-signed .ensures)) in
+    printed s _ _ h (value (c .before .before .before .before .before .before .before .before .before .before .before .before .before .before .before .before .before)) (reads-as (whole-line s (λ r. numbers (nths 2 r) ++ bytes " " ++ signed (nth 2 r)) h) (follows _ _ y (c .before .before .put3 .ensures)))
 
--- src/lib.rt:169:1
 same-length-3 : tie.Need-same-length-3
 same-length-3 c = search needs
 
--- src/lib.rt:169:1
 returns-4 : tie.Need-returns-4
-returns-4 c = ?
+unfolding bytes
+returns-4 c =
+    let s = now (c .before .before .before .before .before .before .before .before .before .before .before .before .before .before .before .before .before .before .before .before .before .before .before .before .args .s) in
+    let n = c .before .before .before .before .before .before .before .before .before .before .before .before .before .before .n2 .given .0 .0 in
+    let h = c .before .before .before .before .before .before .before .before .before .before .before .before .before .before .before .before .before .before .before .before .before .if1 .left in
+    let e : 12 + n - 12 ≡ n = omega arith in
+    let x = follows _ _ (c .before .before .before .before .before .before .before .before .before .before .before .put-fields3 .ensures) (rw e at (c .before .before .before .before .before .before .put-numbers .ensures)) in
+    printed s _ _ h (data′ (c .before .before .before .before .before .before .before .before .before .before .before .before .before .before)) (reads-as (whole-line s (λ r. numbers (nths 3 r) ++ numbers (take n (drop 12 r))) h) (follows _ _ x (c .before .before .put4 .ensures)))
 
--- src/lib.rt:169:1
 returns-5 : tie.Need-returns-5
-returns-5 c = ?
+returns-5 c = (rw (c .enum-told2 .given .1) at (shaped (c .before .before)), refl)
 
 pub put-record-spec : {M : Type 1} → statement M
 put-record-spec =
