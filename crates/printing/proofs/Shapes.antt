@@ -100,6 +100,7 @@ off x k h = go (eqb (x / 256) (k / 256)) refl
   where
     low : eqb (x / 256) (k / 256) ≡ true → eqb (x % 256) (k % 256) ≡ false
     low e = ne-eqb (x % 256) (k % 256) λ f. h (omega (arith, eqb-true (x / 256) (k / 256) e))
+
     go : (b : Bool) → eqb (x / 256) (k / 256) ≡ b → (if b then (if eqb (x % 256) (k % 256) then true else false) else false) ≡ false
     go true e = rw (low e)
     go false e = refl
@@ -128,7 +129,7 @@ others x s a =
     skip _ (off x 19529 (a .0 .0 .0 .1)) (
     skip _ (off x 19524 (a .0 .0 .1)) (
     skip _ (off x 19523 (a .0 .1)) (
-    skip _ (not-times _ _ _ (off x 19540 (a .1))) refl )))))))))))))))))
+    skip _ (not-times _ _ _ (off x 19540 (a .1))) refl)))))))))))))))))
 
 -- one letter alone, or none
 lone : (c a b : ℕ) → same (c ∷ []) (a ∷ b ∷ []) ≡ false
@@ -160,7 +161,7 @@ no-mark (c ∷ []) h =
     skip _ (lone c 76 73) (
     skip _ (lone c 76 68) (
     skip _ (lone c 76 67) (
-    skip _ (not-times _ _ _ (lone c 76 84)) refl )))))))))))))))))
+    skip _ (not-times _ _ _ (lone c 76 84)) refl)))))))))))))))))
 no-mark (c ∷ d ∷ s) h = absurd (omega arith)
 
 -- the record at the head of s, with its mark

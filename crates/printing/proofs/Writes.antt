@@ -48,9 +48,9 @@ follows {at} {w} {r} a b {l} {l₁} {l₂} x y =
     let q = y .place in
     record {
       text = e ∙ min-cases (at + length a) (length l) _
-        (λ h _. ap (λ (i : ℕ). sets (sets l at a) i b) (omega arith))
-        (λ h _. sets-out (sets l at a) w b (omega arith) ∙ sym (sets-out (sets l at a) (at + length a) b (omega arith)))
-        ∙ sym (sets-append l at a b);
+          (λ h _. ap (λ (i : ℕ). sets (sets l at a) i b) (omega arith))
+          (λ h _. sets-out (sets l at a) w b (omega arith) ∙ sym (sets-out (sets l at a) (at + length a) b (omega arith)))
+          ∙ sym (sets-append l at a b);
       place = omega arith;
     }
 
@@ -90,8 +90,8 @@ sets-cut bs l =
     let k : length b ≡ length bs - length l = length-drop (length l) bs in
     let m : length (sets l 0 a) ≡ length l = length-sets l 0 a in
     let rest : sets (sets l 0 a) (0 + length a) b ≡ sets l 0 a = min-cases (length l) (length bs) _
-          (λ h _. sets-out (sets l 0 a) (0 + length a) b (omega arith))
-          (λ h _. ap (sets (sets l 0 a) (0 + length a)) (drop-of-length-le bs h)) in
+    (λ h _. sets-out (sets l 0 a) (0 + length a) b (omega arith))
+    (λ h _. ap (sets (sets l 0 a) (0 + length a)) (drop-of-length-le bs h)) in
     ap (sets l 0) (sym (take-append-drop (length l) bs)) ∙ sets-append l 0 a b ∙ rest ∙ sets-eq a l 0 (omega arith) ∙ ap (λ (k : ℕ). a ++ drop k l) (zero-add (length a))
 
 pub holds : {r : ℕ} {bs l l′ : List ℕ} → Wrote 0 bs l l′ r → Holds bs l l′ r
