@@ -1,6 +1,6 @@
 -- From the numbers of a scan back to the token: nothing is lost, since a number is at most the largest and a stray byte is a byte.
-use Prim.Native.Nat.{ℕ, suc, _+_, _-_, _%_, _≤_, _<_}
-use mathlib.Core.Path.{_≡_, refl, sym, ap, _∙_}
+use Prim.Native.Nat.{ℕ, suc, _+_, _-_, _≤_, _<_}
+use mathlib.Core.Path.{_≡_, refl, ap, _∙_}
 use mathlib.Core.List.{List, [], _∷_}
 use mathlib.Core.Bool.{Bool, true, false, not, _&&_}
 use native.Mathlib.Nat.{mod-eq-of-lt}
@@ -11,8 +11,8 @@ use lib.ListN.{take, drop, getD}
 use lib.Seq.{getD-drop}
 use borrow.Author.Tests.{eq-eqb, ne-eqb, leb-true}
 use Rattle.lexer.specs.Text.{if_then_else_, is, within, anyOf, isBlank, isDigit, isHexDigit, isLetter, run, all, last, digit, valueFrom}
-use Rattle.lexer.specs.Tokens.{largest, numeral, stray, prefixed, digits, inBase, suffixed, numberAt, inQuotes, stringAfter, mark, markAt, tokenAt, sizeOf}
-use Rattle.lexer.specs.Scanned.{kindOf, valueOf, scannedOf, tokenOf, nextOf}
+use Rattle.lexer.specs.Tokens.{largest, numeral, stray, prefixed, digits, inBase, suffixed, numberAt, inQuotes, stringAfter, mark, markAt, tokenAt}
+use Rattle.lexer.specs.Scanned.{scannedOf, tokenOf, nextOf}
 use Rattle.lexer.specs.declared.LiteralKind.the-variants.{Number, Text}
 use Rattle.lexer.specs.declared.PunctuationKind.{PunctuationKind}
 use Rattle.lexer.specs.declared.PunctuationKind.the-variants.{CloseBracket, CloseParenthesis, Colon, Comma, Dollar, Dot, ForwardSlash, Minus, OpenBracket, OpenParenthesis, Plus, Star}

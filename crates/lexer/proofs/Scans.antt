@@ -1,26 +1,25 @@
 -- What is scanned at a place, told from the bytes there: for each way that the code goes, the definition goes the same.
-use Prim.Native.Nat.{ℕ, zero, suc, pred, _+_, _*_, _-_, _≤_, _<_}
+use Prim.Native.Nat.{ℕ, zero, suc, pred, _+_, _-_, _≤_, _<_}
 use mathlib.Core.Path.{_≡_, refl, sym, ap, _∙_}
 use mathlib.Core.List.{List, [], _∷_}
-use mathlib.Core.Bool.{Bool, true, false, _&&_, _||_, or-false}
-use native.Mathlib.Numerals.{add-one}
+use mathlib.Core.Bool.{Bool, true, false, not, _&&_, _||_, or-false, Bool·beq}
+use native.Mathlib.Numerals.{add-one, lt-of-le-of-ne}
 use native.Mathlib.Omega.{arith}
 use lib.Dec.{eqb, leb, ltb}
-use lib.ListN.{length, getD, take, drop, length-drop, drop-of-length-le, List·getD-eq-default}
+use lib.ListN.{length, getD, take, drop, length-drop, drop-of-length-le}
 use lib.Seq.{drop-cons, drop-drop, getD-drop}
-use borrow.Author.Tests.{eq-eqb, ne-eqb, eqb-true, eqb-false, lt-ltb}
+use borrow.Author.Tests.{eq-eqb, ne-eqb, eqb-true, eqb-false, lt-ltb, not-true}
 use Rattle.lexer.specs.Text.{if_then_else_, is, anyOf, isBlank, isDigit, isHexDigit, isLetter, isWordPart, within, run, all, last, digit, valueFrom, openText}
 use Rattle.lexer.specs.Tokens.{largest, numeral, stray, prefixed, digits, inBase, suffixed, numberAt, inQuotes, stringAfter, inComment, markAt, tokenAt, openTokens}
-use Rattle.lexer.specs.Runs.{valuedFrom, upToOne}
+use Rattle.lexer.specs.Runs.{valuedFrom, upToOne, afterZero}
 use Rattle.lexer.specs.Scanned.{scannedOf, isMark}
 use Rattle.lexer.specs.declared.Scanned.{Scanned}
 use Rattle.lexer.specs.declared.Fault.the-variants.{LargerDigit, TooLarge}
-use Rattle.lexer.specs.declared.Token.the-variants.{Whitespace, Identifier, Comment, NewLine, EndOfFile}
+use Rattle.lexer.specs.declared.Token.the-variants.{Whitespace, Identifier, Comment, NewLine}
 use Rattle.lexer.specs.declared.TokenRead.{TokenRead}
 use Rattle.lexer.specs.declared.TokenRead.the-variants.{Read, Refused}
-use Rattle.lexer.specs.declared.text.Value.{Value}
 use Rattle.lexer.specs.declared.text.Value.the-variants.{Fits, Beyond}
-use Rattle.lexer.proofs.Runs.{run-le, run-all, run-ends}
+use Rattle.lexer.proofs.Runs.{both, run-le, run-all, run-ends}
 
 abbrev flat : ℕ → ℕ → ℕ → Scanned
 flat k v e = record { kind = k; value = v; end = e }
@@ -242,87 +241,183 @@ pub larger-scanned : (at end : ℕ) → at < end → flat 30 0 end ≡ scannedOf
 larger-scanned at end h = ap (flat 30 0) (omega arith)
 
 -- The number that begins with c: what stands behind a leading zero.
-pub number-other : (c : ℕ) (cs : List ℕ) → (c ≡ 48 → ⊥) → numberAt c cs ≡ suffixed c cs
+number-other : (c : ℕ) (cs : List ℕ) → eqb c 48 ≡ false → numberAt c cs ≡ suffixed c cs
 unfolding numberAt is
 number-other c [] h = refl
-number-other c (d ∷ ds) h = rw (ne-eqb c 48 h)
+number-other c (d ∷ ds) h = rw h
 
 zero-then : (c : ℕ) (cs : List ℕ) (x : ℕ) → c ≡ 48 → getD cs 0 0 ≡ suc x → numberAt c cs ≡ numberAt 48 (suc x ∷ drop 1 cs)
 zero-then c [] x z q = absurd (omega arith)
 zero-then c (d ∷ ds) x z q = cc
 
-module _ (c : ℕ) (s : List ℕ) (at : ℕ) (z : c ≡ 48) where
-  second : getD (drop (suc at) s) 0 0 ≡ getD s (at + 1) 0
-  second =
+zero-plain : (c : ℕ) (cs : List ℕ) → c ≡ 48 → (getD cs 0 0 ≡ 98 → ⊥) → (getD cs 0 0 ≡ 111 → ⊥) → (getD cs 0 0 ≡ 100 → ⊥) → (getD cs 0 0 ≡ 120 → ⊥) → numberAt c cs ≡ suffixed c cs
+unfolding numberAt is
+zero-plain c [] z b o k x = refl
+zero-plain c (d ∷ ds) z b o k x = rw (z, ne-eqb d 98 b, ne-eqb d 111 o, ne-eqb d 100 k, ne-eqb d 120 x)
+
+module _ (c : ℕ) (s : List ℕ) (at : ℕ) where
+  abbrev second : ℕ
+  second = afterZero c (getD s (at + 1) 0)
+
+  head-is : getD (drop (suc at) s) 0 0 ≡ getD s (at + 1) 0
+  head-is =
       let place : suc at + 0 ≡ at + 1 = omega arith in
       getD-drop (suc at) s 0 0 ∙ ap (λ k. getD s k 0) place
 
-  rest-of : drop 1 (drop (suc at) s) ≡ drop (at + 2) s
-  rest-of =
+  rest-is : drop 1 (drop (suc at) s) ≡ drop (at + 2) s
+  rest-is =
       let place : suc at + 1 ≡ at + 2 = omega arith in
       drop-drop 1 (suc at) s ∙ ap (λ k. drop k s) place
 
-  pub number-binary : getD s (at + 1) 0 ≡ 98 → numberAt c (drop (suc at) s) ≡ prefixed 2 (within "0" "1") (drop (at + 2) s)
+  prefix-is : (x : ℕ) → second ≡ suc x → numberAt c (drop (suc at) s) ≡ numberAt 48 (suc x ∷ drop (at + 2) s)
+  unfolding is
+  prefix-is x q = go (eqb c 48) refl q
+    where
+      go : (t : Bool) → eqb c 48 ≡ t → (if t then getD s (at + 1) 0 else 0) ≡ suc x → numberAt c (drop (suc at) s) ≡ numberAt 48 (suc x ∷ drop (at + 2) s)
+      go true z q = zero-then c (drop (suc at) s) x (eqb-true c 48 z) (head-is ∙ q) ∙ ap (λ l. numberAt 48 (suc x ∷ l)) rest-is
+      go false z q = absurd (omega arith)
+
+  pub number-binary : second ≡ 98 → numberAt c (drop (suc at) s) ≡ prefixed 2 (within "0" "1") (drop (at + 2) s)
   unfolding numberAt is
-  number-binary b = zero-then c (drop (suc at) s) 97 z (second ∙ b) ∙ ap (prefixed 2 (within "0" "1")) rest-of
+  number-binary q = prefix-is 97 q
 
-  pub number-octal : getD s (at + 1) 0 ≡ 111 → numberAt c (drop (suc at) s) ≡ prefixed 8 (within "0" "7") (drop (at + 2) s)
+  pub number-octal : second ≡ 111 → numberAt c (drop (suc at) s) ≡ prefixed 8 (within "0" "7") (drop (at + 2) s)
   unfolding numberAt is
-  number-octal b = zero-then c (drop (suc at) s) 110 z (second ∙ b) ∙ ap (prefixed 8 (within "0" "7")) rest-of
+  number-octal q = prefix-is 110 q
 
-  pub number-decimal : getD s (at + 1) 0 ≡ 100 → numberAt c (drop (suc at) s) ≡ prefixed 10 isDigit (drop (at + 2) s)
+  pub number-decimal : second ≡ 100 → numberAt c (drop (suc at) s) ≡ prefixed 10 isDigit (drop (at + 2) s)
   unfolding numberAt is
-  number-decimal b = zero-then c (drop (suc at) s) 99 z (second ∙ b) ∙ ap (prefixed 10 isDigit) rest-of
+  number-decimal q = prefix-is 99 q
 
-  pub number-hexadecimal : getD s (at + 1) 0 ≡ 120 → numberAt c (drop (suc at) s) ≡ prefixed 16 isHexDigit (drop (at + 2) s)
+  pub number-hexadecimal : second ≡ 120 → numberAt c (drop (suc at) s) ≡ prefixed 16 isHexDigit (drop (at + 2) s)
   unfolding numberAt is
-  number-hexadecimal b = zero-then c (drop (suc at) s) 119 z (second ∙ b) ∙ ap (prefixed 16 isHexDigit) rest-of
+  number-hexadecimal q = prefix-is 119 q
 
-no-prefix : (c : ℕ) (cs : List ℕ) → c ≡ 48 → (getD cs 0 0 ≡ 98 → ⊥) → (getD cs 0 0 ≡ 111 → ⊥) → (getD cs 0 0 ≡ 100 → ⊥) → (getD cs 0 0 ≡ 120 → ⊥) → numberAt c cs ≡ suffixed c cs
-unfolding numberAt is
-no-prefix c [] z b o k x = refl
-no-prefix c (d ∷ ds) z b o k x = rw (z, ne-eqb d 98 b, ne-eqb d 111 o, ne-eqb d 100 k, ne-eqb d 120 x)
+  pub number-plain : (second ≡ 98 → ⊥) → (second ≡ 111 → ⊥) → (second ≡ 100 → ⊥) → (second ≡ 120 → ⊥) → numberAt c (drop (suc at) s) ≡ suffixed c (drop (suc at) s)
+  unfolding is
+  number-plain b o k x = go (eqb c 48) refl b o k x
+    where
+      go : (t : Bool) → eqb c 48 ≡ t →
+          let d = if t then getD s (at + 1) 0 else 0 in
+          (d ≡ 98 → ⊥) → (d ≡ 111 → ⊥) → (d ≡ 100 → ⊥) → (d ≡ 120 → ⊥) → numberAt c (drop (suc at) s) ≡ suffixed c (drop (suc at) s)
+      go true z b o k x =
+          let e = sym head-is in
+          zero-plain c (drop (suc at) s) (eqb-true c 48 z) (λ q. b (e ∙ q)) (λ q. o (e ∙ q)) (λ q. k (e ∙ q)) (λ q. x (e ∙ q))
+      go false z b o k x = number-other c (drop (suc at) s) z
 
-pub number-plain : (c : ℕ) (s : List ℕ) (at : ℕ) → c ≡ 48 → (getD s (at + 1) 0 ≡ 98 → ⊥) → (getD s (at + 1) 0 ≡ 111 → ⊥) → (getD s (at + 1) 0 ≡ 100 → ⊥) → (getD s (at + 1) 0 ≡ 120 → ⊥) →
-    numberAt c (drop (suc at) s) ≡ suffixed c (drop (suc at) s)
-number-plain c s at z b o k x =
-    let e = sym (second c s at z) in
-    no-prefix c (drop (suc at) s) z (λ q. b (e ∙ q)) (λ q. o (e ∙ q)) (λ q. k (e ∙ q)) (λ q. x (e ∙ q))
+less : (c n : ℕ) → c < suc n → (c ≡ n → ⊥) → c < n
+less c n h k = lt-of-le-of-ne (omega arith) k
 
--- The token that begins with c, by the tests on c in their order.
+same : (a b : Bool) → Bool·beq a b ≡ true → a ≡ b
+same true true e = refl
+same true false e = sym e
+same false true e = e
+same false false e = refl
+
+-- The classes of first bytes lie apart: tested once over all bytes.
+below : (ℕ → Bool) → ℕ → Bool
+below f zero = true
+below f (suc n) = f n && below f n
+
+below-all : (f : ℕ → Bool) (n : ℕ) → below f n ≡ true → (c : ℕ) → c < n → f c ≡ true
+unfolding below
+below-all f zero e c h = absurd (omega arith)
+below-all f (suc n) e c h = go (eqb c n) refl (below-all f n)
+  where
+    w : (f n ≡ true) × (below f n ≡ true)
+    w = both (f n) (below f n) e
+
+    go : (t : Bool) → eqb c n ≡ t → (below f n ≡ true → (c : ℕ) → c < n → f c ≡ true) → f c ≡ true
+    go true q r = rw (eqb-true c n q) (w .0)
+    go false q r = r (w .1) c (less c n h (eqb-false c n q))
+
+-- a holds of no byte of which b does
+pub Apart : (ℕ → Bool) → (ℕ → Bool) → Type 0
+Apart a b = (c : ℕ) → c < 256 → a c ≡ true → b c ≡ false
+
+abbrev rulesOut : Bool → Bool → Bool
+rulesOut true b = not b
+rulesOut false b = true
+
+apart : (a b : ℕ → Bool) → below (λ c. rulesOut (a c) (b c)) 256 ≡ true → Apart a b
+unfolding Apart
+apart a b e c h t = go (a c) (b c) (below-all (λ c. rulesOut (a c) (b c)) 256 e c h) t
+  where
+    go : (x y : Bool) → rulesOut x y ≡ true → x ≡ true → y ≡ false
+    go true y e t = not-true y e
+    go false y e t = let z : _≡_ {A = ℕ} 0 1 = cc in absurd (omega arith)
+
+beforeLetter : ℕ → Bool
+beforeLetter c = is ";" c || isBlank c || isDigit c
+
+beforeMark : ℕ → Bool
+beforeMark c = beforeLetter c || isLetter c || is "'" c || is "\n" c
+
+blank-apart : Apart isBlank (is ";")
+unfolding below openText
+blank-apart = apart isBlank (is ";") refl
+
+digit-apart : Apart isDigit (λ c. is ";" c || isBlank c)
+unfolding below openText
+digit-apart = apart isDigit (λ c. is ";" c || isBlank c) refl
+
+letter-apart : Apart isLetter beforeLetter
+unfolding below openText beforeLetter
+letter-apart = apart isLetter beforeLetter refl
+
+mark-apart : Apart isMark beforeMark
+unfolding below openText beforeLetter beforeMark isMark
+mark-apart = apart isMark beforeMark refl
+
+pub off : (a b : Bool) → (a || b) ≡ false → (a ≡ false) × (b ≡ false)
+off true b h = let z : _≡_ {A = ℕ} 0 1 = cc in absurd (omega arith)
+off false b h = (refl, h)
+
+-- The token that begins with the byte c.
 module _ (c : ℕ) (cs : List ℕ) where
   pub token-comment : c ≡ 59 → tokenAt (c ∷ cs) ≡ Read (Comment (suc (run inComment cs)))
   unfolding tokenAt is
-  token-comment h = rw h
+  token-comment e = rw e
 
-  module _ (h₁ : c ≡ 59 → ⊥) where
+  pub token-string : c ≡ 39 → tokenAt (c ∷ cs) ≡ stringAfter cs
+  unfolding tokenAt openText
+  token-string e = rw e
+
+  pub token-line : c ≡ 10 → tokenAt (c ∷ cs) ≡ Read (NewLine 1)
+  unfolding tokenAt openText
+  token-line e = rw e
+
+  pub token-other : isBlank c ≡ false → isLetter c ≡ false → isDigit c ≡ false → (c ≡ 59 → ⊥) → (c ≡ 39 → ⊥) → (c ≡ 10 → ⊥) → tokenAt (c ∷ cs) ≡ markAt c
+  unfolding tokenAt is
+  token-other b l d s q n = rw (ne-eqb c 59 s, b, d, l, ne-eqb c 39 q, ne-eqb c 10 n)
+
+  module _ (h : c < 256) where
     pub token-blank : isBlank c ≡ true → tokenAt (c ∷ cs) ≡ Read (Whitespace (suc (run isBlank cs)))
-    unfolding tokenAt is
-    token-blank h = rw (ne-eqb c 59 h₁, h)
+    unfolding tokenAt Apart
+    token-blank e = rw (blank-apart c h e, e)
 
-    module _ (h₂ : isBlank c ≡ false) where
-      pub token-number : isDigit c ≡ true → tokenAt (c ∷ cs) ≡ numberAt c cs
-      unfolding tokenAt is
-      token-number h = rw (ne-eqb c 59 h₁, h₂, h)
+    pub token-number : isDigit c ≡ true → tokenAt (c ∷ cs) ≡ numberAt c cs
+    unfolding tokenAt Apart
+    token-number e =
+        let o = off (is ";" c) (isBlank c) (digit-apart c h e) in
+        rw (o .0, o .1, e)
 
-      module _ (h₃ : isDigit c ≡ false) where
-        pub token-word : isLetter c ≡ true → tokenAt (c ∷ cs) ≡ Read (Identifier (suc (run isWordPart cs)))
-        unfolding tokenAt is
-        token-word h = rw (ne-eqb c 59 h₁, h₂, h₃, h)
+    pub token-word : isLetter c ≡ true → tokenAt (c ∷ cs) ≡ Read (Identifier (suc (run isWordPart cs)))
+    unfolding tokenAt Apart beforeLetter
+    token-word e =
+        let o = off (is ";" c || isBlank c) (isDigit c) (letter-apart c h e) in
+        let p = off (is ";" c) (isBlank c) (o .0) in
+        rw (p .0, p .1, o .1, e)
 
-        module _ (h₄ : isLetter c ≡ false) where
-          pub token-string : c ≡ 39 → tokenAt (c ∷ cs) ≡ stringAfter cs
-          unfolding tokenAt is
-          token-string h = rw (ne-eqb c 59 h₁, h₂, h₃, h₄, eq-eqb c 39 h)
-
-          module _ (h₅ : c ≡ 39 → ⊥) where
-            pub token-line : c ≡ 10 → tokenAt (c ∷ cs) ≡ Read (NewLine 1)
-            unfolding tokenAt is
-            token-line h = rw (ne-eqb c 59 h₁, h₂, h₃, h₄, ne-eqb c 39 h₅, eq-eqb c 10 h)
-
-            pub token-mark : (c ≡ 10 → ⊥) → tokenAt (c ∷ cs) ≡ markAt c
-            unfolding tokenAt is
-            token-mark h = rw (ne-eqb c 59 h₁, h₂, h₃, h₄, ne-eqb c 39 h₅, ne-eqb c 10 h)
+    pub token-mark : isMark c ≡ true → tokenAt (c ∷ cs) ≡ markAt c
+    unfolding tokenAt Apart beforeLetter beforeMark
+    token-mark e =
+        let n = off (is ";" c || isBlank c || isDigit c || isLetter c || is "'" c) (is "\n" c) (mark-apart c h e) in
+        let q = off (is ";" c || isBlank c || isDigit c || isLetter c) (is "'" c) (n .0) in
+        let l = off (is ";" c || isBlank c || isDigit c) (isLetter c) (q .0) in
+        let d = off (is ";" c || isBlank c) (isDigit c) (l .0) in
+        let b = off (is ";" c) (isBlank c) (d .0) in
+        rw (b .0, b .1, d .1, l .1, q .1, n .1)
 
 -- what is scanned at a place is that of the token whose first byte stands there
 pub scanned-at : (s : List ℕ) (at : ℕ) {t : TokenRead} → at < length s → tokenAt (getD s at 0 ∷ drop (suc at) s) ≡ t → scannedOf at t ≡ scannedOf at (tokenAt (drop at s))
@@ -331,6 +426,15 @@ scanned-at s at h e = ap (scannedOf at) (sym e ∙ ap tokenAt (sym (drop-cons s 
 pub scanned-end : (s : List ℕ) (at : ℕ) → length s ≤ at → flat 0 0 at ≡ scannedOf at (tokenAt (drop at s))
 unfolding tokenAt
 scanned-end s at h = rw (drop-of-length-le s h) (ap (flat 0 0) (omega arith))
+
+-- a line feed's kind is itself, as a punctuation's is
+pub line-scanned : (at c : ℕ) → c ≡ 10 → flat c 0 (at + 1) ≡ scannedOf at (Read (NewLine 1))
+line-scanned at c e = ap (λ k. flat k 0 (at + 1)) e
+
+-- the characters of punctuations are a range and four more
+pub marks-are : (c : ℕ) → c < 256 → ((leb 40 c && leb c 47) || eqb c 36 || eqb c 58 || eqb c 91 || eqb c 93) ≡ isMark c
+unfolding below isMark openText
+marks-are c h = same _ _ (below-all (λ c. Bool·beq ((leb 40 c && leb c 47) || eqb c 36 || eqb c 58 || eqb c 91 || eqb c 93) (anyOf ":,$.[]()+-*/" c)) 256 refl c h)
 
 -- A punctuation is its own character; a byte that is none is a token of its own.
 data Marked (at c : ℕ) (b : Bool) (t : TokenRead) : Type 0 where

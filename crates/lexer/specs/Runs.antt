@@ -3,27 +3,31 @@ use mathlib.Core.Bool.{Bool, _&&_}
 use mathlib.Core.List.{List}
 use Prim.Native.Nat.{ℕ}
 use Prim.Native.Char.{code}
-use lib.Dec.{leb, ltb}
-use Rattle.lexer.specs.Text.{if_then_else_, within, isBlank, isDigit, isHexDigit, isWordPart, all, digit, valueFrom}
+use lib.Dec.{eqb, leb, ltb}
+use Rattle.lexer.specs.Text.{if_then_else_, is, within, isBlank, isDigit, isHexDigit, isWordPart, all, digit, valueFrom}
 use Rattle.lexer.specs.Tokens.{largest, inQuotes, inComment}
-use Rattle.lexer.specs.declared.text.Class.{Class}
-use Rattle.lexer.specs.declared.text.Class.the-variants.{Whitespace, Identifier, UpToOne, Binary, Octal, Decimal, Hexadecimal, Quoted, Comment}
 use Rattle.lexer.specs.declared.text.Value.{Value}
 use Rattle.lexer.specs.declared.text.Value.the-variants.{Fits, Beyond}
 
 abbrev pub upToOne : ℕ → Bool
 upToOne c = leb c (code "1")
 
-abbrev pub belongs : Class → ℕ → Bool
-belongs Whitespace = isBlank
-belongs Identifier = isWordPart
-belongs UpToOne = upToOne
-belongs Binary = within "0" "1"
-belongs Octal = within "0" "7"
-belongs Decimal = isDigit
-belongs Hexadecimal = isHexDigit
-belongs Quoted = inQuotes
-belongs Comment = inComment
+-- the classes by their numbers: a base is the class of its digits
+abbrev pub belongs : ℕ → ℕ → Bool
+belongs class c =
+    if eqb class (code " ") then isBlank c
+    else if eqb class (code "a") then isWordPart c
+    else if eqb class (code "1") then upToOne c
+    else if eqb class (code "'") then inQuotes c
+    else if eqb class (code ";") then inComment c
+    else if eqb class 2 then within "0" "1" c
+    else if eqb class 8 then within "0" "7" c
+    else if eqb class 10 then isDigit c
+    else isHexDigit c
+
+-- the byte d behind a leading zero
+abbrev pub afterZero : ℕ → ℕ → ℕ
+afterZero c d = if is "0" c then d else 0
 
 -- the number that digits write in a base behind those that gave v, if they fit the base and it is not above the largest
 unfoldable pub valuedFrom : ℕ → ℕ → List ℕ → Value

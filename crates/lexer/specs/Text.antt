@@ -9,7 +9,6 @@ use Prim.Native.String.{String}
 use lib.Dec.{eqb, leb, ltb}
 
 infix 5 if_then_else_
-
 abbrev pub if_then_else_ {ℓ} : {A : Type ℓ} → Bool → A → A → A
 if true then a else b = a
 if false then a else b = b

@@ -60,40 +60,43 @@ pub fn is_letter(c: u8, small: u8, capital: u8) -> bool
 pub fn char_at(source: &[u8], index: usize) -> u8
     ensures { λ r. ⌜ r ≡ getD (now (source .entry)) index 0 ⌝ }
 {
-    if index < source.len() { source[index] } else { 0 }
+    if index < source.len() {
+        source[index]
+    } else {
+        0
+    }
 }
 
-// The classes that runs are made of. `Quoted` is what stands between quotes, `Comment` what stands behind a semicolon.
-pub enum Class {
-    Whitespace,
-    Identifier,
-    UpToOne,
-    Binary,
-    Octal,
-    Decimal,
-    Hexadecimal,
-    Quoted,
-    Comment,
-}
+// The classes that runs are made of, beside the digits of a base, whose class is the base. Numbers, not an enum: the loop is then
+// made anew for each class that is known where it is called.
+pub const BLANK: u8 = b' ';
 
-pub fn in_class(class: Class, c: u8) -> bool
+pub const WORD: u8 = b'a';
+
+pub const UP_TO_ONE: u8 = b'1';
+
+pub const QUOTED: u8 = b'\'';
+
+pub const REMARK: u8 = b';';
+
+pub fn in_class(class: u8, c: u8) -> bool
     ensures { λ r. ⌜ r ≡ belongs class c ⌝ }
 {
     match class {
-        Class::Whitespace => is_whitespace(c),
-        Class::Identifier => is_identifier(c),
-        Class::UpToOne => c <= b'1',
-        Class::Binary => is_binary_digit(c),
-        Class::Octal => is_octal_digit(c),
-        Class::Decimal => is_decimal_digit(c),
-        Class::Hexadecimal => is_hexadecimal_digit(c),
-        Class::Quoted => !((c == b'\'') | (c == b'\n')),
-        Class::Comment => c != b'\n',
+        BLANK => is_whitespace(c),
+        WORD => is_identifier(c),
+        UP_TO_ONE => c <= b'1',
+        QUOTED => !((c == b'\'') | (c == b'\n')),
+        REMARK => c != b'\n',
+        2 => is_binary_digit(c),
+        8 => is_octal_digit(c),
+        10 => is_decimal_digit(c),
+        _ => is_hexadecimal_digit(c),
     }
 }
 
 // The place behind the run of a class that begins at `from`.
-pub fn run_end(source: &[u8], from: usize, class: Class) -> usize
+pub fn run_end(source: &[u8], from: usize, class: u8) -> usize
     ensures { λ r. ⌜ r ≡ from + run (belongs class) (drop from (now (source .entry))) ⌝ }
 {
     let mut i = from;

@@ -5,9 +5,6 @@ use Rattle.lexer.proofs.Scans.{literal-fits, literal-beyond}
 use borrow.Author.Needs.{needs}
 use Rattle.lexer.proofs.number_literal.Statement.{statement}
 use Rattle.lexer.proofs.number_literal.Tie as tie
-use Rattle.lexer.proofs.number_literal.Reads as reads
-use Rattle.lexer.proofs.number_literal.Lts as lts
-use Rattle.lexer.proofs.text.from_radix.Reads as from-radix-reads
 
 from-radix-requires : tie.Need-from-radix-requires
 from-radix-requires c κs = search needs

@@ -6,10 +6,6 @@ use Rattle.lexer.proofs.Scans.{prefix-alone, prefix-within, prefix-fits
 use borrow.Author.Needs.{needs}
 use Rattle.lexer.proofs.number_literal_with_prefix.Statement.{statement}
 use Rattle.lexer.proofs.number_literal_with_prefix.Tie as tie
-use Rattle.lexer.proofs.number_literal_with_prefix.Reads as reads
-use Rattle.lexer.proofs.number_literal_with_prefix.Lts as lts
-use Rattle.lexer.proofs.text.from_radix.Reads as from-radix-reads
-use Rattle.lexer.proofs.text.run_end.Reads as run-end-reads
 
 add-from : tie.Need-add-from
 add-from c = search needs
@@ -17,14 +13,14 @@ add-from c = search needs
 run-end-requires : tie.Need-run-end-requires
 run-end-requires c κs = search needs
 
-add-t9 : tie.Need-add-t9
-add-t9 c = search needs
+add-t8 : tie.Need-add-t8
+add-t8 c = search needs
 
 returns : tie.Need-returns
 returns c = prefix-alone _ _ _ _ _ (c .before .run-end .ensures) (c .if1 .taken)
 
 from-radix-requires : tie.Need-from-radix-requires
-from-radix-requires c κs = (omega arith, prefix-within (belongs (c .before .before .before .args .class)) 0 _ _ _ (c .before .run-end .ensures) (c .if1 .left), c .before .before .before .pre .1, c .before .before .before .pre .2)
+from-radix-requires c κs = (omega arith, prefix-within (belongs (c .before .before .before .args .base)) 0 _ _ _ (c .before .run-end .ensures) (c .if1 .left), c .before .before .before .pre .1, c .before .before .before .pre .2)
 
 enum-known-v : tie.Need-enum-known-v
 enum-known-v c = search needs
@@ -44,7 +40,7 @@ number-literal-with-prefix-spec =
     (tie.spec
     add-from
     run-end-requires
-    add-t9
+    add-t8
     returns
     from-radix-requires
     enum-known-v

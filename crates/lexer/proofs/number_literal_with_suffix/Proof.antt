@@ -1,7 +1,6 @@
 -- The run and the byte behind it settle the suffix, and with it the base, as in the definition.
-use mathlib.Core.Path.{_≡_, refl, sym, ap, _∙_}
+use mathlib.Core.Path.{sym, ap, _∙_}
 use native.Mathlib.Omega.{arith}
-use native.Mathlib.Numerals.{add-one}
 use Rattle.lexer.specs.Scanned.{scannedOf}
 use Rattle.lexer.proofs.Scans.{suffix-inside, suffix-within, suffix-larger, suffix-binary, suffix-decimal, suffix-octal, suffix-hexadecimal, suffix-none, larger-scanned}
 use Prim.Native.Nat.{_≤_, _<_}
@@ -10,12 +9,6 @@ use lib.ListN.{length}
 use borrow.Author.Needs.{needs}
 use Rattle.lexer.proofs.number_literal_with_suffix.Statement.{statement}
 use Rattle.lexer.proofs.number_literal_with_suffix.Tie as tie
-use Rattle.lexer.proofs.number_literal_with_suffix.Reads as reads
-use Rattle.lexer.proofs.number_literal_with_suffix.Lts as lts
-use Rattle.lexer.proofs.number_literal.Reads as number-literal-reads
-use Rattle.lexer.proofs.text.char_at.Reads as char-at-reads
-use Rattle.lexer.proofs.text.is_letter.Reads as is-letter-reads
-use Rattle.lexer.proofs.text.run_end.Reads as run-end-reads
 
 -- the run has a digit, and lies within the source
 inside : (c : tie.After-run-end) → (c .before .before .args .at < c .run-end .result) × (c .run-end .result ≤ length (now (c .before .before .args .source)))

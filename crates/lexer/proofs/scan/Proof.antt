@@ -1,25 +1,28 @@
--- The first byte settles the token, by the tests of the definition in their order.
-use mathlib.Core.Path.{_≡_, refl, sym, ap, _∙_}
+-- The first byte settles the token: the classes of first bytes lie apart, so the order of the tests is free.
+use Prim.Native.Nat.{_<_}
+use mathlib.Core.Path.{refl, sym, _∙_}
+use mathlib.Core.Logic.{⊎-elim}
+use borrow.Author.Tests.{eqb-true, eqb-false}
 use native.Mathlib.Omega.{arith}
-use Rattle.lexer.proofs.Scans.{run-end-is, scanned-at, scanned-end, token-comment, token-blank, token-number, token-word, token-string, token-line, token-mark, mark-scanned, stray-scanned}
+use denote.Ref.{now}
+use lib.ListN.{getD}
+use Rattle.lexer.proofs.Runs.{one-of}
+use Rattle.lexer.proofs.Scans.{off, run-end-is, string-closed, string-unclosed, string-room, scanned-at, scanned-end, line-scanned, mark-scanned, stray-scanned, token-comment, token-blank, token-number, token-word, token-string, token-line, token-mark, token-other}
 use borrow.Author.Needs.{needs}
 use Rattle.lexer.proofs.scan.Statement.{statement}
 use Rattle.lexer.proofs.scan.Tie as tie
-use Rattle.lexer.proofs.scan.Reads as reads
-use Rattle.lexer.proofs.scan.Lts as lts
-use Rattle.lexer.proofs.is_punctuation.Reads as is-punctuation-reads
-use Rattle.lexer.proofs.number.Reads as number-reads
-use Rattle.lexer.proofs.string_literal.Reads as string-literal-reads
-use Rattle.lexer.proofs.text.is_decimal_digit.Reads as is-decimal-digit-reads
-use Rattle.lexer.proofs.text.is_identifier_first.Reads as is-identifier-first-reads
-use Rattle.lexer.proofs.text.is_whitespace.Reads as is-whitespace-reads
-use Rattle.lexer.proofs.text.run_end.Reads as run-end-reads
+
+byte : (c : tie.After-shared-slice-known2) → getD (now (c .before .before .before .args .source)) (c .before .before .before .args .at) 0 < 256
+byte c = omega (arith, c .shared-slice-known2 .given (c .before .before .before .args .at))
 
 returns : tie.Need-returns
 returns c = scanned-end _ _ (c .if1 .taken)
 
 shared-slice-read-c : tie.Need-shared-slice-read-c
 shared-slice-read-c c = search needs
+
+is-whitespace-requires : tie.Need-is-whitespace-requires
+is-whitespace-requires c κs = search needs
 
 add-run-end : tie.Need-add-run-end
 add-run-end c = search needs
@@ -28,10 +31,10 @@ run-end-requires : tie.Need-run-end-requires
 run-end-requires c κs = search needs
 
 returns-2 : tie.Need-returns-2
-returns-2 c = run-end-is _ _ _ _ (c .run-end .ensures) 59 ∙ scanned-at _ _ (c .before .before .before .if1 .left) (token-comment _ _ (c .before .if2 .taken))
+returns-2 c = run-end-is _ _ _ _ (c .run-end .ensures) 32 ∙ scanned-at _ _ (c .before .before .before .before .if1 .left) (token-blank _ _ (byte (c .before .before .before)) (sym (c .before .before .is-whitespace .ensures) ∙ c .before .if2 .taken))
 
-is-whitespace-requires : tie.Need-is-whitespace-requires
-is-whitespace-requires c κs = search needs
+is-identifier-first-requires : tie.Need-is-identifier-first-requires
+is-identifier-first-requires c κs = search needs
 
 add-run-end-2 : tie.Need-add-run-end-2
 add-run-end-2 c = search needs
@@ -40,19 +43,29 @@ run-end-requires-2 : tie.Need-run-end-requires-2
 run-end-requires-2 c κs = search needs
 
 returns-3 : tie.Need-returns-3
-returns-3 c = run-end-is _ _ _ _ (c .run-end2 .ensures) 32 ∙ scanned-at _ _ (c .before .before .before .before .before .if1 .left) (token-blank _ _ (c .before .before .before .if2 .left) (sym (c .before .before .is-whitespace .ensures) ∙ c .before .if3 .taken))
+returns-3 c = run-end-is _ _ _ _ (c .run-end2 .ensures) 97 ∙ scanned-at _ _ (c .before .before .before .before .before .before .if1 .left) (token-word _ _ (byte (c .before .before .before .before .before)) (sym (c .before .before .is-identifier-first .ensures) ∙ c .before .if3 .taken))
 
 is-decimal-digit-requires : tie.Need-is-decimal-digit-requires
 is-decimal-digit-requires c κs = search needs
 
 number-requires : tie.Need-number-requires
-number-requires c κs = ((c .before .before .before .before .before .before .if1 .left), refl, (sym (c .before .is-decimal-digit .ensures) ∙ c .if4 .taken))
+number-requires c κs = ((c .before .before .before .before .before .before .before .if1 .left), refl, (sym (c .before .is-decimal-digit .ensures) ∙ c .if4 .taken))
 
 returns-4 : tie.Need-returns-4
-returns-4 c = c .number .ensures ∙ scanned-at _ _ (c .before .before .before .before .before .before .before .if1 .left) (token-number _ _ (c .before .before .before .before .before .if2 .left) (sym (c .before .before .before .before .is-whitespace .ensures) ∙ c .before .before .before .if3 .left) (sym (c .before .before .is-decimal-digit .ensures) ∙ c .before .if4 .taken))
+returns-4 c = c .number .ensures ∙ scanned-at _ _ (c .before .before .before .before .before .before .before .before .if1 .left) (token-number _ _ (byte (c .before .before .before .before .before .before .before)) (sym (c .before .before .is-decimal-digit .ensures) ∙ c .before .if4 .taken))
 
-is-identifier-first-requires : tie.Need-is-identifier-first-requires
-is-identifier-first-requires c κs = search needs
+is-punctuation-requires : tie.Need-is-punctuation-requires
+is-punctuation-requires c κs = search needs
+
+add-t20 : tie.Need-add-t20
+add-t20 c = search needs
+
+returns-5 : tie.Need-returns-5
+returns-5 c =
+    ⊎-elim
+    (λ p. mark-scanned _ _ (sym (c .before .is-punctuation .ensures) ∙ p) ∙ scanned-at _ _ (c .before .before .before .before .before .before .before .before .before .if1 .left) (token-mark _ _ (byte (c .before .before .before .before .before .before .before .before)) (sym (c .before .is-punctuation .ensures) ∙ p)))
+    (λ n. line-scanned _ _ (eqb-true _ 10 n) ∙ scanned-at _ _ (c .before .before .before .before .before .before .before .before .before .if1 .left) (token-line _ _ (eqb-true _ 10 n)))
+    (one-of _ _ (c .if5 .taken))
 
 add-run-end-3 : tie.Need-add-run-end-3
 add-run-end-3 c = search needs
@@ -60,38 +73,38 @@ add-run-end-3 c = search needs
 run-end-requires-3 : tie.Need-run-end-requires-3
 run-end-requires-3 c κs = search needs
 
-returns-5 : tie.Need-returns-5
-returns-5 c = run-end-is _ _ _ _ (c .run-end3 .ensures) 97 ∙ scanned-at _ _ (c .before .before .before .before .before .before .before .before .before .if1 .left) (token-word _ _ (c .before .before .before .before .before .before .before .if2 .left) (sym (c .before .before .before .before .before .before .is-whitespace .ensures) ∙ c .before .before .before .before .before .if3 .left) (sym (c .before .before .before .before .is-decimal-digit .ensures) ∙ c .before .before .before .if4 .left) (sym (c .before .before .is-identifier-first .ensures) ∙ c .before .if5 .taken))
-
-string-literal-requires : tie.Need-string-literal-requires
-string-literal-requires c κs = search needs
-
 returns-6 : tie.Need-returns-6
-returns-6 c = c .string-literal .ensures ∙ scanned-at _ _ (c .before .before .before .before .before .before .before .before .before .before .if1 .left) (token-string _ _ (c .before .before .before .before .before .before .before .before .if2 .left) (sym (c .before .before .before .before .before .before .before .is-whitespace .ensures) ∙ c .before .before .before .before .before .before .if3 .left) (sym (c .before .before .before .before .before .is-decimal-digit .ensures) ∙ c .before .before .before .before .if4 .left) (sym (c .before .before .before .is-identifier-first .ensures) ∙ c .before .before .if5 .left) (c .before .if6 .taken))
+returns-6 c = run-end-is _ _ _ _ (c .run-end3 .ensures) 59 ∙ scanned-at _ _ (c .before .before .before .before .before .before .before .before .before .before .before .if1 .left) (token-comment _ _ (c .before .if6 .taken))
 
-add-t20 : tie.Need-add-t20
-add-t20 c = search needs
+add-run-end-4 : tie.Need-add-run-end-4
+add-run-end-4 c = search needs
+
+run-end-requires-4 : tie.Need-run-end-requires-4
+run-end-requires-4 c κs = search needs
+
+char-at-requires : tie.Need-char-at-requires
+char-at-requires c κs = search needs
+
+add-t24 : tie.Need-add-t24
+add-t24 c = omega (arith, string-room _ _ _ (c .before .before .run-end4 .ensures) (sym (c .before .char-at .ensures) ∙ c .if8 .taken))
 
 returns-7 : tie.Need-returns-7
-returns-7 c = scanned-at _ _ (c .before .before .before .before .before .before .before .before .before .before .if1 .left) (token-line _ _ (c .before .before .before .before .before .before .before .before .if2 .left) (sym (c .before .before .before .before .before .before .before .is-whitespace .ensures) ∙ c .before .before .before .before .before .before .if3 .left) (sym (c .before .before .before .before .before .is-decimal-digit .ensures) ∙ c .before .before .before .before .if4 .left) (sym (c .before .before .before .is-identifier-first .ensures) ∙ c .before .before .if5 .left) (c .before .if6 .left) (c .if7 .taken))
-
-is-punctuation-requires : tie.Need-is-punctuation-requires
-is-punctuation-requires c κs = search needs
-
-add-t22 : tie.Need-add-t22
-add-t22 c = search needs
+returns-7 c = string-closed _ _ _ (c .before .before .run-end4 .ensures) (sym (c .before .char-at .ensures) ∙ c .if8 .taken) ∙ scanned-at _ _ (c .before .before .before .before .before .before .before .before .before .before .before .before .before .before .if1 .left) (token-string _ _ (c .before .before .before .if7 .taken))
 
 returns-8 : tie.Need-returns-8
-returns-8 c = mark-scanned _ _ (sym (c .before .is-punctuation .ensures) ∙ c .if8 .taken) ∙ scanned-at _ _ (c .before .before .before .before .before .before .before .before .before .before .before .before .if1 .left) (token-mark _ _ (c .before .before .before .before .before .before .before .before .before .before .if2 .left) (sym (c .before .before .before .before .before .before .before .before .before .is-whitespace .ensures) ∙ c .before .before .before .before .before .before .before .before .if3 .left) (sym (c .before .before .before .before .before .before .before .is-decimal-digit .ensures) ∙ c .before .before .before .before .before .before .if4 .left) (sym (c .before .before .before .before .before .is-identifier-first .ensures) ∙ c .before .before .before .before .if5 .left) (c .before .before .before .if6 .left) (c .before .before .if7 .left))
+returns-8 c = string-unclosed _ _ _ (c .before .before .run-end4 .ensures) (λ q. c .if8 .left (c .before .char-at .ensures ∙ q)) ∙ scanned-at _ _ (c .before .before .before .before .before .before .before .before .before .before .before .before .before .before .if1 .left) (token-string _ _ (c .before .before .before .if7 .taken))
 
-cast-t23 : tie.Need-cast-t23
-cast-t23 c = omega (arith, c .before .before .before .before .before .before .before .before .before .before .before .shared-slice-known2 .given (c .before .before .before .before .before .before .before .before .before .before .before .before .before .before .args .at))
+cast-t25 : tie.Need-cast-t25
+cast-t25 c = omega (arith, byte (c .before .before .before .before .before .before .before .before .before .before))
 
-add-t7 : tie.Need-add-t7
-add-t7 c = search needs
+add-t9 : tie.Need-add-t9
+add-t9 c = search needs
 
 returns-9 : tie.Need-returns-9
-returns-9 c = stray-scanned _ _ (sym (c .before .is-punctuation .ensures) ∙ c .if8 .left) ∙ scanned-at _ _ (c .before .before .before .before .before .before .before .before .before .before .before .before .if1 .left) (token-mark _ _ (c .before .before .before .before .before .before .before .before .before .before .if2 .left) (sym (c .before .before .before .before .before .before .before .before .before .is-whitespace .ensures) ∙ c .before .before .before .before .before .before .before .before .if3 .left) (sym (c .before .before .before .before .before .before .before .is-decimal-digit .ensures) ∙ c .before .before .before .before .before .before .if4 .left) (sym (c .before .before .before .before .before .is-identifier-first .ensures) ∙ c .before .before .before .before .if5 .left) (c .before .before .before .if6 .left) (c .before .before .if7 .left))
+returns-9 c =
+    let o = off _ _ (c .before .before .if5 .left) in
+    stray-scanned _ _ (sym (c .before .before .before .is-punctuation .ensures) ∙ o .0)
+    ∙ scanned-at _ _ (c .before .before .before .before .before .before .before .before .before .before .before .if1 .left) (token-other _ _ (sym (c .before .before .before .before .before .before .before .before .before .is-whitespace .ensures) ∙ c .before .before .before .before .before .before .before .before .if2 .left) (sym (c .before .before .before .before .before .before .before .is-identifier-first .ensures) ∙ c .before .before .before .before .before .before .if3 .left) (sym (c .before .before .before .before .before .is-decimal-digit .ensures) ∙ c .before .before .before .before .if4 .left) (c .before .if6 .left) (c .if7 .left) (eqb-false _ 10 (o .1)))
 
 pub scan-spec : {M : Type 1} → statement M
 scan-spec =
@@ -99,27 +112,29 @@ scan-spec =
     (tie.spec
     returns
     shared-slice-read-c
+    is-whitespace-requires
     add-run-end
     run-end-requires
     returns-2
-    is-whitespace-requires
+    is-identifier-first-requires
     add-run-end-2
     run-end-requires-2
     returns-3
     is-decimal-digit-requires
     number-requires
     returns-4
-    is-identifier-first-requires
+    is-punctuation-requires
+    add-t20
+    returns-5
     add-run-end-3
     run-end-requires-3
-    returns-5
-    string-literal-requires
     returns-6
-    add-t20
+    add-run-end-4
+    run-end-requires-4
+    char-at-requires
+    add-t24
     returns-7
-    is-punctuation-requires
-    add-t22
     returns-8
-    cast-t23
-    add-t7
+    cast-t25
+    add-t9
     returns-9)

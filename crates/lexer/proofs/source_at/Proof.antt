@@ -9,8 +9,6 @@ use mathlib.Core.List.{List}
 use borrow.Author.Needs.{needs}
 use Rattle.lexer.proofs.source_at.Statement.{statement}
 use Rattle.lexer.proofs.source_at.Tie as tie
-use Rattle.lexer.proofs.source_at.Reads as reads
-use Rattle.lexer.proofs.source_at.Lts as lts
 
 none-left : (s : List ℕ) (start len : ℕ) → length s ≤ start → take (length s - length s) (drop (length s) s) ≡ take len (drop start s)
 none-left s start len h = rw (drop-of-length-le s (le-refl (length s)), drop-of-length-le s h, take-nil, take-nil)
@@ -40,7 +38,7 @@ part-result-end-2 : tie.Need-part-result-end-2
 part-result-end-2 c = search needs
 
 returns-2 : tie.Need-returns-2
-returns-2 c = 
+returns-2 c =
     let a = c .before .before .before .args in
     let s = a .source .now in
     take-all (length s - a .start) (drop (a .start) s) (omega (arith, length-drop (a .start) s)) ∙ sym (take-all (a .len) (drop (a .start) s) (omega (arith, length-drop (a .start) s)))
@@ -58,7 +56,7 @@ part-result-end-3 : tie.Need-part-result-end-3
 part-result-end-3 c = search needs
 
 returns-3 : tie.Need-returns-3
-returns-3 c = 
+returns-3 c =
     let a = c .before .before .before .args in
     let count : a .start + a .len - a .start ≡ a .len = omega arith in
     rw count

@@ -11,8 +11,6 @@ use Rattle.lexer.specs.declared.Token.the-variants.{Literal}
 use borrow.Author.Needs.{needs}
 use Rattle.lexer.proofs.token_of.Statement.{statement}
 use Rattle.lexer.proofs.token_of.Tie as tie
-use Rattle.lexer.proofs.token_of.Reads as reads
-use Rattle.lexer.proofs.token_of.Lts as lts
 
 cast-t6 : tie.Need-cast-t6
 cast-t6 c = search needs
@@ -42,7 +40,7 @@ returns-5 c = rw (c .match .keys5)
 
 returns-6 : tie.Need-returns-6
 unfolding tokenOf
-returns-6 c = 
+returns-6 c =
     let a = c .before .args in
     rw (c .match .keys6) (ap (λ (z : ℤ). Literal (a .n) (Number z)) (toZ-ofZ {w = w32} {z = pos (a .value % 2147483648)} (record { sfits = search needs })))
 
@@ -104,7 +102,7 @@ returns-20 c = rw (c .match .keys20)
 
 returns-21 : tie.Need-returns-21
 unfolding tokenOf
-returns-21 c = 
+returns-21 c =
     let r = c .match .rest in
     simp (
       ne-eqb _ _ (r .1),

@@ -11,10 +11,6 @@ use Rattle.lexer.proofs.Nested.{kept-at, nextFrom, next-larger, next-to
 use borrow.Author.Needs.{needs}
 use Rattle.lexer.proofs.Cursor.next_token.Statement.{statement}
 use Rattle.lexer.proofs.Cursor.next_token.Tie as tie
-use Rattle.lexer.proofs.Cursor.next_token.Reads as reads
-use Rattle.lexer.proofs.Cursor.next_token.Lts as lts
-use Rattle.lexer.proofs.scan.Reads as scan-reads
-use Rattle.lexer.proofs.token_of.Reads as token-of-reads
 
 whole : (c : tie.After-scan) → let a = c .before .before .args in nextFrom (a .self .pos) (c .scan .result) ≡ nextOf (a .self .pos) (tokenAt (drop (a .self .pos) (now (a .source))))
 whole c =

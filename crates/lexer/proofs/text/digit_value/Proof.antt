@@ -5,8 +5,6 @@ use Rattle.lexer.specs.Text.{openText}
 use borrow.Author.Needs.{needs}
 use Rattle.lexer.proofs.text.digit_value.Statement.{statement}
 use Rattle.lexer.proofs.text.digit_value.Tie as tie
-use Rattle.lexer.proofs.text.digit_value.Reads as reads
-use Rattle.lexer.proofs.text.digit_value.Lts as lts
 
 returns : tie.Need-returns
 unfolding openText

@@ -4,7 +4,7 @@ use mathlib.Core.List.{_∷_}
 use mathlib.Core.Path.{_≡_, refl, sym, ap, _∙_}
 use borrow.Author.Needs.{needs}
 use native.Mathlib.Omega.{arith}
-use native.Mathlib.Nat.{mul-le-mul, le-refl}
+use native.Mathlib.Nat.{mul-le-mul}
 use denote.Ref.{now}
 use lib.ListN.{take, drop, getD}
 use Rattle.lexer.specs.Text.{digit}
@@ -12,12 +12,9 @@ use Rattle.lexer.specs.Runs.{valuedFrom}
 use Rattle.lexer.proofs.Runs.{digits-more, digits-none, valued-more, valued-stop, valued-large, valued-end}
 use Rattle.lexer.proofs.text.from_radix.Statement.{statement}
 use Rattle.lexer.proofs.text.from_radix.Tie as tie
-use Rattle.lexer.proofs.text.from_radix.Reads as reads
-use Rattle.lexer.proofs.text.from_radix.Lts as lts
-use Rattle.lexer.proofs.text.digit_value.Reads as digit-value-reads
 
 abbrev Inv-loop : tie.InvT-loop
-Inv-loop source from to base v₀ i₀ v i = 
+Inv-loop source from to base v₀ i₀ v i =
     (i ≤ to) × (v ≤ 2147483647) × (valuedFrom v base (take (to - i) (drop i source)) ≡ valuedFrom 0 base (take (to - from) (drop from source)))
 
 abbrev μ-loop : tie.MeasureT-loop
