@@ -6,7 +6,8 @@ use mathlib.Core.List.{List, [], _∷_, _++_}
 use Prim.Native.Nat.{ℕ, zero, suc, pred, _+_, _*_, _≤_, _<_, zero-le}
 use native.Mathlib.Omega.{arith}
 use lib.ListN.{length, length-append}
-use Rattle.lexer.specs.Text.{if_then_else_, isDigit, isLetter, isWordPart, run}
+use mathlib.Core.Option.{Option, none, some}
+use Rattle.lexer.specs.Text.{if_then_else_, maybe, isDigit, isLetter, isWordPart, run}
 use Rattle.lexer.specs.Tokens.{tokenAt, sizeOf}
 use Rattle.lexer.specs.declared.LiteralKind.the-variants.{Number, Text}
 use Rattle.lexer.specs.declared.Token.the-variants.{Whitespace, Identifier, Literal, Punctuation, Comment, NewLine, EndOfFile, Invalid}
@@ -16,9 +17,10 @@ use Rattle.lexer.specs.declared.TokenRead.the-variants.{Read, Refused}
 use Rattle.lexer.proofs.TokensText.{Begun, tokenAt-begun, tokenAt-some, tokenAt-le}
 use Rattle.rules.specs.Lexemes.{kindOf, Lexeme, isGap, lexeme, put, tokensFrom, textOf}
 use Rattle.rules.specs.Records.{Record, listing}
-use Rattle.rules.specs.Reader.{Answer, done, refused, after}
+use Rattle.rules.specs.Reader.{Refusal, at, Answer, done, refused, after, arrive, refusedAs}
 use Rattle.rules.specs.Operands.{isWord, isNumber}
-use Rattle.rules.specs.Statements.{Row, State, firstOf, enter, accepted, fullRead}
+use Rattle.rules.specs.Statements.{Row, State, rows, firstOf, enter, statement, accepted, readFrom, fullRead}
+use Rattle.rules.specs.Calls.{oneRead}
 use Rattle.rules.proofs.Table.{Proper}
 use Rattle.rules.proofs.Append.{Reads, Begins, fine, broken}
 use Rattle.rules.proofs.Shape.{Small, Chain, chain-le, chain-low}
@@ -143,9 +145,12 @@ spaced p zero (c ∷ cs) m h =
     put-spaced p t (c ∷ cs) (tokensFrom (suc p) (pred (sizeOf t)) cs)
     (λ w. rw e (lead (suc p) (pred (sizeOf t)) cs (m .1) (omega arith) (stops-behind c cs w))) (spaced (suc p) (pred (sizeOf t)) cs (m .1) (omega arith))
 
+never : {S A : Type 0} {r : Refusal} {w : List Record} {a : A} {t : S} → refused r ≡ done w a t → ⊥
+never e = true≢false cc
+
 module _ (table : List ℕ) (proper : Proper table) where
   module _ (n hi : ℕ) where
-    stop-bound : {d : ℕ} {w : List Record} {t : State} → Post Writes (λ _. OnS n hi 6 6) d (done w false t) → d + weight w ≤ 18 * n
+    stop-bound : {d : ℕ} {w : List Record} {b : Bool} {t : State} → Post Writes (λ _. OnS n hi 6 6) d (done w b t) → d + weight w ≤ 18 * n
     stop-bound (holds {s = t} r q) =
         let i : t .line .here .to ≤ n = chain-le n hi (t .line .here .to) (t .line .more ++ flat (t .below)) (q .chain .2) in
         omega (arith, run-weight r, q .paid, q .chain .1 .ordered)
@@ -171,10 +176,37 @@ module _ (table : List ℕ) (proper : Proper table) where
     begins-bound l (fine {r} {rs} f g) c p = reads-bound g 0 (enter-on r rs c p)
     begins-bound l (broken f) c p = tt
 
+    one-bound : (l : List Row) {w : List Record} {b : Bool} {t : State} → oneRead table l ≡ done w b t → Chain n hi 0 (flat l) → Spaced (flat l) → 0 + weight w ≤ 18 * n
+    unfolding oneRead arrive
+    one-bound [] e c p = absurd (never e)
+    one-bound (r ∷ rs) {w} {b} {t} e c p = go (refusedAs (r .first .kind)) e
+      where
+        go : (o : Option ℕ) → maybe o (statement table (enter r rs)) (λ m. refused (at m (r .first .from) (r .first .to))) ≡ done w b t → 0 + weight w ≤ 18 * n
+        go none e = stop-bound (rw e at (statement-on table proper n hi .law 0 (enter r rs) (enter-on r rs c p)))
+        go (some m) e = absurd (never e)
+
+  -- The reading of bytes that stand from place p on; of one statement there; of a source.
+  module _ (p : ℕ) (s : List ℕ) (m : Small s) where
+    first-chain : Chain (p + length s) (p + length s) 0 (flat (rowsFrom p s)) × Spaced (flat (rowsFrom p s))
+    unfolding rowsFrom
+    first-chain =
+        let f : flat (rows (tokensFrom p 0 s)) ≡ tokensFrom p 0 s = flat-rows (tokensFrom p 0 s) in
+        (rw f (chain-low (p + length s) (p + length s) p 0 (tokensFrom p 0 s) zero-le (chain-plain p s m)), rw f (spaced p 0 s m zero-le))
+
+    pub bounded-from : (w : List Record) → readFrom table p s ≡ accepted w → length (listing w) ≤ 18 * (p + length s)
+    bounded-from w e =
+        let (u, g) = accepts-run table p s w e in
+        let (c, d) = first-chain in
+        let b : 0 + weight w ≤ 18 * (p + length s) = begins-bound (p + length s) (p + length s) (rowsFrom p s) g c d in
+        omega arith
+
+    pub bounded-one : {w : List Record} {b : Bool} {t : State} → oneRead table (rows (tokensFrom p 0 s)) ≡ done w b t → length (listing w) ≤ 18 * (p + length s)
+    unfolding rowsFrom
+    bounded-one {w} e =
+        let (c, d) = first-chain in
+        let b : 0 + weight w ≤ 18 * (p + length s) = one-bound (p + length s) (p + length s) (rows (tokensFrom p 0 s)) e c d in
+        omega arith
+
   pub bounded : (s : List ℕ) (w : List Record) → Small s → fullRead table s ≡ accepted w → length (listing w) ≤ 18 * length s
-  unfolding fullRead rowsFrom
-  bounded s w m e =
-      let (u, g) = accepts-run table 0 s w e in
-      let f : flat (rowsFrom 0 s) ≡ tokensFrom 0 0 s = flat-rows (tokensFrom 0 0 s) in
-      let b : 0 + weight w ≤ 18 * (0 + length s) = begins-bound (0 + length s) (0 + length s) (rowsFrom 0 s) g (rw f (chain-plain 0 s m)) (rw f (spaced 0 0 s m zero-le)) in
-      omega arith
+  unfolding fullRead
+  bounded s w m e = omega (arith, bounded-from 0 s m w e)

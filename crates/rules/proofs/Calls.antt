@@ -20,7 +20,7 @@ unfolding unless
 unless-gives true r x y h = absurd (true≢false cc)
 unless-gives false r x y h = (refl, h)
 
-none-foreign : (p : ℕ) (s : List ℕ) → foreign p s ≡ none → Small s
+pub none-foreign : (p : ℕ) (s : List ℕ) → foreign p s ≡ none → Small s
 unfolding foreign
 none-foreign p [] h = tt
 none-foreign p (c ∷ cs) h = go (ltb 127 c) refl h (λ e. none-foreign (suc p) cs e)

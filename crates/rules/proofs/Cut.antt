@@ -82,7 +82,7 @@ skip-blank l (r ∷ rs) {w} {t} h e = go (isLineEnd (l .here .kind)) refl h (λ 
 unfoldable pub rowsFrom : ℕ → List ℕ → List Row
 rowsFrom p s = rows (tokensFrom p 0 s)
 
-tokens-finished : (p k : ℕ) (s : List ℕ) → Finished (tokensFrom p k s)
+pub tokens-finished : (p k : ℕ) (s : List ℕ) → Finished (tokensFrom p k s)
 unfolding tokensFrom isLineEnd
 tokens-finished p k [] = refl
 tokens-finished p (suc k) (c ∷ cs) = tokens-finished (suc p) k cs
@@ -96,7 +96,7 @@ put-count p t s xs = go (isGap (kindOf t s))
     go true = omega arith
     go false = omega arith
 
-tokens-count : (p k : ℕ) (s : List ℕ) → length (tokensFrom p k s) ≤ suc (length s)
+pub tokens-count : (p k : ℕ) (s : List ℕ) → length (tokensFrom p k s) ≤ suc (length s)
 unfolding tokensFrom
 tokens-count p k [] = omega arith
 tokens-count p (suc k) (c ∷ cs) = omega (arith, tokens-count (suc p) k cs)
@@ -107,7 +107,7 @@ unfolding push
 push-total x [] = omega arith
 push-total x (r ∷ rs) = omega arith
 
-rows-total : (xs : List Lexeme) → total (rows xs) ≡ length xs
+pub rows-total : (xs : List Lexeme) → total (rows xs) ≡ length xs
 unfolding rows
 rows-total [] = refl
 rows-total (x ∷ xs) = go (isLineEnd (x .kind)) (rows-total xs)
@@ -121,7 +121,7 @@ unfolding push
 push-all x [] (r, rs, e) h = absurd (true≢false cc)
 push-all x (r ∷ rs) e h = h
 
-rows-all : (xs : List Lexeme) → Finished xs → AllEnded (rows xs)
+pub rows-all : (xs : List Lexeme) → Finished xs → AllEnded (rows xs)
 unfolding rows
 rows-all [] h = absurd h
 rows-all (x ∷ []) h = rw h (h, tt)

@@ -152,7 +152,7 @@ Ended [] = ⊥
 Ended (x ∷ []) = isLineEnd (x .kind) ≡ true
 Ended (x ∷ y ∷ zs) = Ended (y ∷ zs)
 
-ended-cons : (x : Lexeme) (xs : List Lexeme) → Ended xs → Ended (x ∷ xs)
+pub ended-cons : (x : Lexeme) (xs : List Lexeme) → Ended xs → Ended (x ∷ xs)
 ended-cons x [] h = absurd h
 ended-cons x (y ∷ zs) h = h
 

@@ -89,7 +89,7 @@ having-encodes n m s r z o h e = go (leb (4 * n) (length s)) refl h
         record { size = 4 * n; sized = sym (ap (λ (q : Sized). q .size) k); fits = l; bytes′ = ap (λ (q : List ℕ). m ++ q) (take-fields 0 n s (omega arith) o) ∙ sym e ∙ ap (λ (q : Sized). encode (q .what)) k }
     go false i j = absurd (true≢false cc)
 
-same-true : (a b : List ℕ) → same a b ≡ true → a ≡ b
+pub same-true : (a b : List ℕ) → same a b ≡ true → a ≡ b
 unfolding same
 same-true [] [] h = refl
 same-true [] (c ∷ t) h = absurd (false≢true h)

@@ -135,11 +135,11 @@ register-small : (k : Kind) (r : ℕ) → nameIn registers k ≡ some r → r < 
 unfolding registers
 register-small k r h = name-small registers k r h
 
-segment-small : (k : Kind) (r : ℕ) → nameIn segments k ≡ some r → r < 4
+pub segment-small : (k : Kind) (r : ℕ) → nameIn segments k ≡ some r → r < 4
 unfolding segments
 segment-small k r h = name-small segments k r h
 
-size-small : (k : Kind) (r : ℕ) → nameIn sizes k ≡ some r → r < 2
+pub size-small : (k : Kind) (r : ℕ) → nameIn sizes k ≡ some r → r < 2
 unfolding sizes
 size-small k r h = name-small sizes k r h
 

@@ -1,0 +1,188 @@
+-- The full read by its steps: what reading all statements makes of the whole, and the copy of what was kept.
+-- Assumes nothing.
+use Prim.Native.Nat.{ℕ, zero, suc, _+_, _-_, _*_, _≤_, _<_}
+use mathlib.Core.Path.{_≡_, refl, sym, ap, subst, _∙_}
+use mathlib.Core.List.{List, [], _∷_, _++_, append-assoc}
+use mathlib.Core.Bool.{Bool, true, false}
+use mathlib.Core.Option.{Option, none, some}
+use native.Mathlib.Omega.{arith}
+use native.Mathlib.Nat.{zero-add}
+use native.Mathlib.Numerals.{add-one}
+use borrow.Author.Tests.{lt-ltb, le-ltb, ltb-false, leb-true}
+use lib.Dec.{ltb}
+use lib.ListN.{length, take, drop, getD, set, length-take, length-append}
+use lib.Seq.{take-suc, drop-cons, take-append-seam}
+use Rattle.lexer.specs.Text.{if_then_else_, maybe}
+use Rattle.names.specs.Table.{operations}
+use Rattle.rules.specs.Lexemes.{Lexeme, tokensFrom}
+use Rattle.rules.specs.Records.{Record, listing}
+use Rattle.rules.specs.Reader.{Refusal as Cause, at, nowhere, Answer, done, refused, after, thence, arrive, refusedAs}
+use Rattle.rules.specs.Statements.{Row, State, rows, enter, statements, Outcome, accepted, refusal, outcome, readRows, readFrom, fullRead}
+use Rattle.rules.specs.Calls.{Result, gives, refuses, unless, lent, inRoom, overwrite, leaves, listed, foreign, fullCall, fullBuffer}
+use Rattle.rules.proofs.Calls.{none-foreign}
+use Rattle.rules.proofs.Shape.{Small}
+use Rattle.rules.proofs.Table.{proper}
+use Rattle.rules.proofs.Bound.{bounded}
+use Rattle.rules.proofs.Listing.{listing-formed, listing-decodes}
+use Rattle.records.specs.Writes.{stores, limit, Wrote}
+use Rattle.records.proofs.Writes.{stores-room}
+use Rattle.parser.specs.declared.state.Parser.{Parser}
+use Rattle.parser.specs.declared.state.Refusal.{Refusal}
+use Rattle.parser.specs.declared.state.Parsed.{Parsed}
+use Rattle.parser.specs.declared.state.Parsed.the-variants as parsed
+use Rattle.parser.specs.declared.reader.FullAnswer.{FullAnswer}
+use Rattle.parser.specs.declared.reader.FullAnswer.the-variants.{Written, Refused}
+use Rattle.parser.specs.Views.{numbersOf, stateOf, whole, Gives, Denies, Reads}
+use Rattle.parser.specs.Lent.{foreignPlace}
+use Rattle.parser.specs.Statements.{begin, Started, NotStarted, ReadsStatements}
+use Rattle.parser.specs.Calls.{fullAnswer, FullRead, WritesAs, Writes}
+use Rattle.parser.proofs.StatementsCalls.{full-read, full-refused, full-not-started}
+use Rattle.parser.proofs.Lent.{never-foreign}
+
+-- Copying byte by byte.
+set-seam : (a b : List ℕ) (y x : ℕ) → set (a ++ (y ∷ b)) (length a) x ≡ a ++ (x ∷ b)
+set-seam [] b y x = refl
+set-seam (c ∷ a) b y x = ap (λ (l : List ℕ). c ∷ l) (set-seam a b y x)
+
+pub copied : (kept out : List ℕ) (i : ℕ) → i < length kept → i < length out → set (take i kept ++ drop i out) i (getD kept i 0) ≡ take (i + 1) kept ++ drop (i + 1) out
+copied kept out i h k =
+    let n : length (take i kept) ≡ i = length-take i kept ∙ omega arith in
+    let e : set (take i kept ++ (getD out i 0 ∷ drop (suc i) out)) (length (take i kept)) (getD kept i 0) ≡ take i kept ++ (getD kept i 0 ∷ drop (suc i) out) = set-seam (take i kept) (drop (suc i) out) (getD out i 0) (getD kept i 0) in
+    rw (drop-cons out i 0 k) ((rw n at e) ∙ sym (rw (add-one, take-suc kept i 0 h) (append-assoc (take i kept) (getD kept i 0 ∷ []) (drop (suc i) out))))
+
+-- with n bytes copied
+pub all-copied : (kept out : List ℕ) (n : ℕ) → n ≤ length kept → take n kept ++ drop n out ≡ overwrite (take n kept) out
+unfolding overwrite
+all-copied kept out n h = let e : length (take n kept) ≡ n = length-take n kept ∙ omega arith in rw e
+
+-- The reading of a source is that of the bytes from place 0 on.
+module _ (table s : List ℕ) (p : Parser) (b : Started s 0 p) where
+  pub record Accepts (l l′ : List ℕ) (w : ℕ) : Type 0 where
+    pub v : List Record
+    pub reads : fullRead table s ≡ accepted v
+    pub wrote : Wrote 0 (listing v) l l′ w
+
+  module _ {l l′ : List ℕ} where
+    pub accepts : {q : Parser} {w : ℕ} → ReadsStatements table s p 0 l l′ (parsed.Done q w) → Accepts l l′ w
+    unfolding fullRead
+    accepts h = let f = full-read table s 0 b h in record { v = f .v; reads = f .reads; wrote = f .wrote }
+
+    pub denies : {r : Refusal} → ReadsStatements table s p 0 l l′ (parsed.Refused r) → (c : Cause) × (fullRead table s ≡ refusal c) × (r ≡ numbersOf c)
+    unfolding fullRead
+    denies h = let f = full-refused table s 0 b h in (f .cause, f .reads, f .numbers)
+
+-- the first token is refused already
+pub not-begun : (table s : List ℕ) {r : Refusal} → NotStarted s 0 r → (c : Cause) × (fullRead table s ≡ refusal c) × (r ≡ numbersOf c)
+unfolding fullRead
+not-begun table s b = let f = full-not-started table s 0 b in (f .cause, f .reads, f .numbers)
+
+-- What it makes of the answer and of the buffer.
+module _ (s l : List ℕ) where
+  pub is-denied : {r : Refusal} → (c : Cause) × (fullRead operations s ≡ refusal c) × (r ≡ numbersOf c) → FullRead s l l (Refused r)
+  unfolding listed leaves
+  is-denied (c, e, k) = record { answer = rw e (ap Refused k); buffer = rw e }
+
+  module _ (m : Small s) (short : length s ≤ 65536) {v : List Record} (e : fullRead operations s ≡ accepted v) where
+    -- within the limit
+    pub little : length (listing v) ≤ limit
+    little = omega (arith, bounded operations proper s v m e)
+
+    pub no-room-for : length l < length (listing v) → FullRead s l l (Refused (numbersOf (nowhere 4)))
+    unfolding listed leaves inRoom unless
+    no-room-for h = record { answer = rw (e, lt-ltb (length l) (length (listing v)) h); buffer = rw (e, lt-ltb (length l) (length (listing v)) h) }
+
+    pub is-written : {l′ : List ℕ} → length (listing v) ≤ length l → l′ ≡ overwrite (listing v) l → FullRead s l l′ (Written (length (listing v)))
+    unfolding listed leaves inRoom unless
+    is-written h k = record { answer = rw (e, le-ltb (length l) (length (listing v)) h); buffer = rw (e, le-ltb (length l) (length (listing v)) h) k }
+
+-- bytes stored from the first on
+pub stored-over : (l b : List ℕ) → length b ≤ length l → stores l 0 b ≡ overwrite b l
+unfolding overwrite
+stored-over l b h = stores-room l 0 b (omega arith) ∙ rw (zero-add (length b))
+
+pub taken-over : (l b : List ℕ) → length b ≤ length l → take (length b) (stores l 0 b) ≡ b
+unfolding overwrite
+taken-over l b h = rw (stored-over l b h) (take-append-seam b (drop (length b) l))
+
+-- a source whose first byte above 127 is behind its end has small bytes
+pub small : (s : List ℕ) → foreignPlace s ≡ length s → Small s
+small s e = none-foreign 0 s (never-foreign s (sym e))
+
+written-as : {s l l′ : List ℕ} {n m : ℕ} → n ≡ m → FullRead s l l′ (Written m) → FullRead s l l′ (Written n)
+written-as e f = rw e f
+
+taken : {n : ℕ} (l b : List ℕ) {l′ : List ℕ} → n ≡ length b → l′ ≡ stores l 0 b → length b ≤ length l → take n l′ ≡ b
+taken l b e k h = rw (e, k) (taken-over l b h)
+
+accepted-same : {v w : List Record} → accepted v ≡ accepted w → v ≡ w
+accepted-same e = cc
+
+never-both : {v : List Record} {c : Cause} → accepted v ≡ refusal c → ⊥
+never-both e = let z : _≡_ {A = ℕ} 0 1 = cc in omega arith
+
+-- The two readings of `keep_and_copy`.
+module _ {s : List ℕ} {p : Parser} (short : length s ≤ 65536) (plain : foreignPlace s ≡ length s) (b : Started s 0 p) where
+  module _ {kept kept′ : List ℕ} {q : Parser} {n : ℕ} (h : ReadsStatements operations s p 0 kept kept′ (parsed.Done q n)) where
+    abbrev first : Accepts operations s p b kept kept′ n
+    first = accepts operations s p b h
+
+    size-is : n ≡ length (listing (first .v))
+    size-is = first .wrote .place (omega (arith, little s [] (small s plain) short (first .reads))) ∙ zero-add (length (listing (first .v)))
+
+    pub no-room : {l : List ℕ} → length l < n → FullRead s l l (Refused (numbersOf (nowhere 4)))
+    no-room {l} k = no-room-for s l (small s plain) short (first .reads) (rw size-is at k)
+
+    pub kept-copied : {l l′ : List ℕ} → n ≤ length l → n ≤ length kept′ → l′ ≡ overwrite (take n kept′) l → FullRead s l l′ (Written n)
+    kept-copied {l} {l′} i j e =
+        let k : length (listing (first .v)) ≤ limit = little s [] (small s plain) short (first .reads) in
+        let f : length (listing (first .v)) ≤ length kept = omega (arith, first .wrote .long, size-is) in
+        let t : take n kept′ ≡ listing (first .v) = taken kept (listing (first .v)) size-is (first .wrote .wrote (omega arith) (omega arith)) f in
+        written-as size-is (is-written s l (small s plain) short (first .reads) (omega (arith, size-is)) (e ∙ ap (λ (x : List ℕ). overwrite x l) t))
+
+    pub read-again : {l l′ : List ℕ} {q₂ : Parser} {n₂ : ℕ} → n ≤ length l → ReadsStatements operations s p 0 l l′ (parsed.Done q₂ n₂) → FullRead s l l′ (Written n)
+    read-again {l} {l′} i k =
+        let a = accepts operations s p b k in
+        let same : first .v ≡ a .v = accepted-same (sym (first .reads) ∙ a .reads) in
+        let c : length (listing (first .v)) ≡ length (listing (a .v)) = ap (λ (v : List Record). length (listing v)) same in
+        let j : length (listing (a .v)) ≤ limit = little s [] (small s plain) short (a .reads) in
+        let f : length (listing (a .v)) ≤ length l = omega (arith, size-is) in
+        written-as (size-is ∙ c) (is-written s l (small s plain) short (a .reads) f (a .wrote .wrote (omega arith) (omega arith) ∙ stored-over l (listing (a .v)) f))
+
+    pub never-denied : {l l′ : List ℕ} {r : Refusal} → ReadsStatements operations s p 0 l l′ (parsed.Refused r) → ⊥
+    never-denied k = let (c, e, _) = denies operations s p b k in never-both (sym (first .reads) ∙ e)
+
+-- The whole call, from the full read of a source that is one to read.
+module _ (s l l′ : List ℕ) {r : FullAnswer} where
+  pub call-answer : lent s (listed (length l) (fullRead operations s)) ≡ listed (length l) (fullRead operations s) → FullRead s l l′ r → r ≡ fullAnswer (fullCall operations s (length l))
+  unfolding fullCall
+  call-answer e f = f .answer ∙ ap fullAnswer (sym e)
+
+  pub call-buffer : lent s (listed (length l) (fullRead operations s)) ≡ listed (length l) (fullRead operations s) → FullRead s l l′ r → l′ ≡ fullBuffer operations s l
+  unfolding fullBuffer fullCall
+  call-buffer e f = f .buffer ∙ ap (λ (x : Result (List Record)). leaves listing x l) (sym e)
+
+module _ (s l : List ℕ) {r : Refusal} (d : (c : Cause) × (lent s (listed (length l) (fullRead operations s)) ≡ refuses c) × (r ≡ numbersOf c)) where
+  pub call-denied : Refused r ≡ fullAnswer (fullCall operations s (length l))
+  unfolding fullCall
+  call-denied = let (c, e, k) = d in rw e (ap Refused k)
+
+  pub buffer-denied : l ≡ fullBuffer operations s l
+  unfolding fullBuffer fullCall leaves
+  buffer-denied = let (c, e, k) = d in rw e
+
+-- What an accepted call has written.
+module _ (s l l′ : List ℕ) (m : Small s) (short : length s ≤ 65536) where
+  written-so : (o : Outcome) → fullRead operations s ≡ o → {r : FullAnswer} → r ≡ fullAnswer (listed (length l) o) → l′ ≡ leaves listing (listed (length l) o) l → WritesAs s l′ r
+  unfolding listed inRoom unless leaves overwrite
+  written-so (refusal c) e k h = rw k tt
+  written-so (accepted v) e k h = go (ltb (length l) (length (listing v))) refl k h
+    where
+      go : (b : Bool) → ltb (length l) (length (listing v)) ≡ b → {r : FullAnswer} → r ≡ fullAnswer (unless b (nowhere 4) (gives v)) → l′ ≡ leaves listing (unless b (nowhere 4) (gives v)) l → WritesAs s l′ r
+      go true i k h = rw k tt
+      go false i k h =
+          let f : take (length (listing v)) l′ ≡ listing v = rw h (take-append-seam (listing v) (drop (length (listing v)) l)) in
+          let n : length l′ ≡ length (listing v) + length (drop (length (listing v)) l) = ap length h ∙ length-append (listing v) (drop (length (listing v)) l) in
+          rw k (omega arith, bounded operations proper s v m e, rw (f, listing-decodes operations proper s v m short e) (listing-formed operations proper s v m e))
+
+  pub is-well-written : {r : FullAnswer} → FullRead s l l′ r → Writes s l′ r
+  is-well-written f = record { so = written-so (fullRead operations s) refl (f .answer) (f .buffer) }

@@ -1,0 +1,16 @@
+pub mod Chain
+pub mod Flat
+pub mod Stream
+pub mod Steps
+pub mod Lent
+pub mod FullReads
+pub mod ExpressionsReading
+pub mod ExpressionsEvaluate
+pub mod ExpressionsShorter
+pub mod OperandLaws
+pub mod OneReads
+pub mod StatementsLines
+pub mod StatementsForms
+pub mod StatementsData
+pub mod StatementsRun
+pub mod StatementsCalls

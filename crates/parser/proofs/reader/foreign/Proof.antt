@@ -1,0 +1,54 @@
+-- `foreign` finds the first byte above 127. The invariant: what is left to search has the same first.
+-- Assumes nothing.
+use Prim.Native.Nat.{_+_, _-_, _≤_}
+use mathlib.Core.Path.{_≡_, refl, sym, _∙_}
+use native.Mathlib.Omega.{arith}
+use borrow.Author.Needs.{needs}
+use lib.ListN.{length, drop}
+use Rattle.rules.specs.Calls.{foreign}
+use Rattle.parser.proofs.Lent.{foreign-here, foreign-on, foreign-end, place-found, place-none}
+use Rattle.parser.proofs.reader.foreign.Statement.{statement}
+use Rattle.parser.proofs.reader.foreign.Tie as tie
+use Rattle.parser.proofs.reader.foreign.Reads as reads
+use Rattle.parser.proofs.reader.foreign.Lts as lts
+
+abbrev Inv-loop : tie.InvT-loop
+Inv-loop source i₀ i = (i ≤ length source) × (foreign i (drop i source) ≡ foreign 0 source)
+
+abbrev μ-loop : tie.MeasureT-loop
+μ-loop source i₀ i = length source - i
+
+loop-holds : tie.Need-loop-holds Inv-loop μ-loop
+loop-holds c = (search needs, refl)
+
+shared-slice-read-if1 : tie.Need-shared-slice-read-if1 Inv-loop μ-loop
+shared-slice-read-if1 c = search needs
+
+returns : tie.Need-returns Inv-loop μ-loop
+returns c = place-found _ (sym (c .before .before .before .loop .inv .1) ∙ foreign-here _ _ (c .before .before .loop-test .taken) (c .if1 .taken))
+
+add-i : tie.Need-add-i Inv-loop μ-loop
+add-i c = search needs
+
+loop-less : tie.Need-loop-less Inv-loop μ-loop
+loop-less c = search needs
+
+loop-again : tie.Need-loop-again Inv-loop μ-loop
+loop-again c = (omega arith, foreign-on _ _ (c .before .before .loop-test .taken) (c .if1 .left) ∙ c .before .before .before .loop .inv .1)
+
+returns-2 : tie.Need-returns-2 Inv-loop μ-loop
+returns-2 c = place-none _ (sym (c .before .loop .inv .1) ∙ foreign-end _ _ (c .loop-test .left)) (omega arith)
+
+pub foreign-spec : {M : Type 1} → statement M
+foreign-spec =
+    tie.close
+    (tie.spec
+    Inv-loop
+    μ-loop
+    loop-holds
+    shared-slice-read-if1
+    returns
+    add-i
+    loop-less
+    loop-again
+    returns-2)

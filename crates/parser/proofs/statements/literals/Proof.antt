@@ -1,0 +1,95 @@
+-- The invariant: the bytes so far are written, and stand in front of those of the literals from here on. Each literal leaves fewer tokens.
+-- Assumes nothing.
+use mathlib.Core.Path.{sym, subst, _∙_}
+use native.Mathlib.Omega.{arith}
+use borrow.Author.Needs.{needs}
+use lib.ListN.{length}
+use Rattle.parser.specs.Views.{lineOf, Passes}
+use Rattle.parser.specs.Statements.{ReadsLiteral}
+use Rattle.parser.proofs.Flat.{or-false}
+use Rattle.parser.proofs.StatementsLines.{inside, inside-falls}
+use Rattle.parser.proofs.StatementsData.{Front, front-starts, front-ends, front-refused, front-turns, front-stops}
+use Rattle.parser.proofs.statements.literals.Statement.{statement}
+use Rattle.parser.proofs.statements.literals.Tie as tie
+use Rattle.parser.proofs.statements.literals.Reads as reads
+use Rattle.parser.proofs.statements.literals.Lts as lts
+use Rattle.parser.proofs.state.is_line_end.Reads as is-line-end-reads
+use Rattle.parser.proofs.state.next.Reads as next-reads
+use Rattle.parser.proofs.statements.literal.Reads as literal-reads
+
+abbrev Inv-loop : tie.InvT-loop
+Inv-loop src out₀ at width q₀ w₀ some₀ out q w some = Front src q₀ width at out₀ q w some out
+
+abbrev μ-loop : tie.MeasureT-loop
+μ-loop src out₀ at width q₀ w₀ some₀ out q w some = length (lineOf src q .more)
+
+loop-holds : tie.Need-loop-holds Inv-loop μ-loop
+loop-holds c = front-starts _ _ _ _ _
+
+is-line-end-requires : tie.Need-is-line-end-requires Inv-loop μ-loop
+is-line-end-requires c κs = search needs
+
+same-length : tie.Need-same-length Inv-loop μ-loop
+same-length c = c .before .before .loop .inv .wrote .long
+
+returns : tie.Need-returns Inv-loop μ-loop
+returns c = record { so = front-ends (c .before .before .loop .inv) (sym (c .before .is-line-end .ensures) ∙ c .if1 .taken) }
+
+literal-requires : tie.Need-literal-requires Inv-loop μ-loop
+literal-requires c κs = let f = or-false _ _ (sym (c .before .before .is-line-end .ensures) ∙ c .before .if1 .left) in (f .0, f .1, c .before .before .before .before .before .before .pre .1, c .before .before .before .before .before .before .pre .2)
+
+enum-known-r : tie.Need-enum-known-r Inv-loop μ-loop
+enum-known-r c = search needs
+
+same-length-2 : tie.Need-same-length-2 Inv-loop μ-loop
+same-length-2 c = c .before .before .before .before .before .literal .kept .1 .0 ∙ c .before .before .before .before .before .before .before .before .before .loop .inv .wrote .long
+
+returns-2 : tie.Need-returns-2 Inv-loop μ-loop
+returns-2 c = record { so = front-refused (c .before .before .before .before .before .before .before .before .before .loop .inv) ((subst (ReadsLiteral _ _ _ _ _ _) (c .before .r .given .1) (c .before .before .before .before .before .literal .ensures)) .so) }
+
+enum-known-n : tie.Need-enum-known-n Inv-loop μ-loop
+enum-known-n c = search needs
+
+next-requires : tie.Need-next-requires Inv-loop μ-loop
+next-requires c κs = let f = or-false _ _ (sym (c .before .before .before .before .before .before .before .before .is-line-end .ensures) ∙ c .before .before .before .before .before .before .before .if1 .left) in (c .before .before .before .before .before .before .before .before .before .before .before .before .pre .0, f .0, f .1)
+
+enum-known-r-2 : tie.Need-enum-known-r-2 Inv-loop μ-loop
+enum-known-r-2 c = search needs
+
+same-length-3 : tie.Need-same-length-3 Inv-loop μ-loop
+same-length-3 c = c .before .before .before .before .before .before .before .before .before .literal .kept .1 .0 ∙ c .before .before .before .before .before .before .before .before .before .before .before .before .before .loop .inv .wrote .long
+
+returns-3 : tie.Need-returns-3 Inv-loop μ-loop
+returns-3 c = record { so = front-stops (c .before .before .before .before .before .before .before .before .before .before .before .before .before .loop .inv) ((subst (ReadsLiteral _ _ _ _ _ _) (c .before .before .before .before .before .n .given .1) (c .before .before .before .before .before .before .before .before .before .literal .ensures)) .so) ((subst (Passes _ _ _ _) (c .before .r2 .given .1) (c .before .before .before .next .ensures)) .so) }
+
+enum-known-after : tie.Need-enum-known-after Inv-loop μ-loop
+enum-known-after c = search needs
+
+loop-less : tie.Need-loop-less Inv-loop μ-loop
+loop-less c = let f = or-false _ _ (sym (c .before .before .before .before .before .before .before .before .before .before .before .before .is-line-end .ensures) ∙ c .before .before .before .before .before .before .before .before .before .before .before .if1 .left) in omega (arith, inside-falls _ (c .before .before .before .before .before .before .before .before .before .before .before .before .before .loop .q) (inside _ (c .before .before .before .before .before .before .before .before .before .before .before .before .before .loop .q) (f .0) (f .1)) _ ((subst (Passes _ _ _ _) (c .before .after .given .1) (c .before .before .before .next .ensures)) .so))
+
+loop-again : tie.Need-loop-again Inv-loop μ-loop
+loop-again c = let f = or-false _ _ (sym (c .before .before .before .before .before .before .before .before .before .before .before .before .is-line-end .ensures) ∙ c .before .before .before .before .before .before .before .before .before .before .before .if1 .left) in front-turns (c .before .before .before .before .before .before .before .before .before .before .before .before .before .loop .inv) ((subst (ReadsLiteral _ _ _ _ _ _) (c .before .before .before .before .before .n .given .1) (c .before .before .before .before .before .before .before .before .before .literal .ensures)) .so) (inside _ (c .before .before .before .before .before .before .before .before .before .before .before .before .before .loop .q) (f .0) (f .1)) ((subst (Passes _ _ _ _) (c .before .after .given .1) (c .before .before .before .next .ensures)) .so)
+
+pub literals-spec : {M : Type 1} → statement M
+literals-spec =
+    tie.close
+    (tie.spec
+    Inv-loop
+    μ-loop
+    loop-holds
+    is-line-end-requires
+    same-length
+    returns
+    literal-requires
+    enum-known-r
+    same-length-2
+    returns-2
+    enum-known-n
+    next-requires
+    enum-known-r-2
+    same-length-3
+    returns-3
+    enum-known-after
+    loop-less
+    loop-again)

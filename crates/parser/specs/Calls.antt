@@ -1,0 +1,54 @@
+-- The answers of the calls, as the code gives them: document 01's numbers and values for each case.
+use Prim.Native.Nat.{ℕ, _+_, _*_, _≤_}
+use mathlib.Core.Path.{_≡_}
+use mathlib.Core.List.{List}
+use mathlib.Core.Bool.{Bool, true, false}
+use lib.ListN.{length, take, drop}
+use Rattle.lexer.specs.Text.{maybe}
+use Rattle.rules.specs.Lexemes.{tokensFrom}
+use Rattle.rules.specs.Decode.{decode}
+use Rattle.rules.specs.WellFormed.{wellFormed}
+use Rattle.lexer.specs.Tokens.{lengthOf}
+use Rattle.lexer.specs.declared.Token.{Token}
+use Rattle.names.specs.Table.{operations}
+use Rattle.rules.specs.Records.{Record, listing}
+use Rattle.rules.specs.Statements.{rows, fullRead}
+use Rattle.rules.specs.Calls.{Result, gives, refuses, listed, leaves, Found, nothing, found, oneFound, oneRead, foundBytes}
+use Rattle.parser.specs.declared.reader.TokenAnswer.{TokenAnswer}
+use Rattle.parser.specs.declared.reader.TokenAnswer.the-variants as token
+use Rattle.parser.specs.declared.reader.StatementAnswer.{StatementAnswer}
+use Rattle.parser.specs.declared.reader.StatementAnswer.the-variants as statement
+use Rattle.parser.specs.declared.reader.FullAnswer.{FullAnswer}
+use Rattle.parser.specs.declared.reader.FullAnswer.the-variants as full
+use Rattle.parser.specs.Views.{numbersOf}
+
+-- the token read at a place, with the state behind it
+abbrev pub tokenAnswer : ℕ → Result Token → TokenAnswer
+tokenAnswer p (gives t) = token.Read t (record { pos = p + lengthOf t })
+tokenAnswer p (refuses c) = token.Refused (numbersOf c)
+
+abbrev pub statementAnswer : Result Found → StatementAnswer
+statementAnswer (gives nothing) = statement.NoneLeft
+statementAnswer (gives (found w p)) = statement.Written (length (listing w)) p
+statementAnswer (refuses c) = statement.Refused (numbersOf c)
+
+abbrev pub fullAnswer : Result (List Record) → FullAnswer
+fullAnswer (gives w) = full.Written (length (listing w))
+fullAnswer (refuses c) = full.Refused (numbersOf c)
+
+-- What a source that is one to read gives: the answer, and what the buffer holds afterwards.
+pub record FullRead (s l l′ : List ℕ) (r : FullAnswer) : Type 0 where
+  pub answer : r ≡ fullAnswer (listed (length l) (fullRead operations s))
+  pub buffer : l′ ≡ leaves listing (listed (length l) (fullRead operations s)) l
+
+pub record OneRead (s : List ℕ) (p : ℕ) (l l′ : List ℕ) (r : StatementAnswer) : Type 0 where
+  pub answer : r ≡ statementAnswer (oneFound (length l) (oneRead operations (rows (tokensFrom p 0 (drop p s)))))
+  pub buffer : l′ ≡ leaves foundBytes (oneFound (length l) (oneRead operations (rows (tokensFrom p 0 (drop p s))))) l
+
+-- What holds of the bytes that an accepted full read has written: a listing is never longer than 18 times its source, and it is well-formed.
+abbrev pub WritesAs : List ℕ → List ℕ → FullAnswer → Type 0
+WritesAs s l (full.Written n) = (n ≤ length l) × (n ≤ 18 * length s) × (maybe (decode (take n l)) false (wellFormed (length s)) ≡ true)
+WritesAs s l (full.Refused r) = Unit {0}
+
+pub record Writes (s l : List ℕ) (r : FullAnswer) : Type 0 where
+  pub so : WritesAs s l r

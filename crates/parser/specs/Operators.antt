@@ -1,0 +1,37 @@
+-- The declared operators and the answers of their functions, in the numbers of document 01.
+use Prim.Native.Nat.{ℕ}
+use mathlib.Core.Option.{Option, none, some}
+use lib.IntN.{ℤ}
+use lib.Dec.{ltb}
+use Rattle.lexer.specs.Text.{if_then_else_}
+use Rattle.rules.specs.Reader.{nowhere}
+use Rattle.rules.specs.Calls.{Result, gives, refuses}
+use Rattle.rules.specs.Expressions.{prefixLevel}
+use Rattle.parser.specs.declared.expressions.Operator.{Operator}
+use Rattle.parser.specs.declared.expressions.Operator.the-variants.{Add, Subtract, Multiply, Divide}
+use Rattle.parser.specs.declared.expressions.MaybeOperator.{MaybeOperator}
+use Rattle.parser.specs.declared.expressions.MaybeOperator.the-variants.{Is, Not}
+use Rattle.parser.specs.declared.expressions.PrefixLevel.{PrefixLevel}
+use Rattle.parser.specs.declared.expressions.PrefixLevel.the-variants.{Level, Invalid}
+use Rattle.parser.specs.declared.expressions.Evaluated.{Evaluated}
+use Rattle.parser.specs.declared.expressions.Evaluated.the-variants.{Value, Beyond, ZeroDivisor}
+
+abbrev pub operatorNumber : Operator → ℕ
+operatorNumber Add = 0
+operatorNumber Subtract = 1
+operatorNumber Multiply = 2
+operatorNumber Divide = 3
+
+abbrev pub numberIn : MaybeOperator → Option ℕ
+numberIn (Is op) = some (operatorNumber op)
+numberIn Not = none
+
+-- Only `+` and `-` stand before an operand.
+abbrev pub prefixLevelOf : Operator → PrefixLevel
+prefixLevelOf op = if ltb (operatorNumber op) 2 then (Level prefixLevel) else Invalid
+
+-- 50: beyond 32 signed bits; 51: zero divisor.
+abbrev pub resultOf : Evaluated → Result ℤ
+resultOf (Value z) = gives z
+resultOf Beyond = refuses (nowhere 50)
+resultOf ZeroDivisor = refuses (nowhere 51)

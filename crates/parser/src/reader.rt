@@ -1,0 +1,252 @@
+// The calls that read a source: a token, a statement, or all of it. A refusal leaves the buffer as it was.
+use lexer::Cursor;
+use lexer::Fault;
+use lexer::Next;
+use lexer::Token;
+use super::state::Parsed;
+use super::state::Parser;
+use super::state::Refusal;
+use super::state::Step;
+use super::state::refused_at;
+use super::statements::StatementRead;
+use super::statements::start;
+use super::statements::statement;
+use super::statements::statements;
+ghost use mathlib.Core.Path.{_≡_};
+ghost use Prim.Native.Nat.{ℕ, _≤_};
+ghost use lib.ListN.{length};
+ghost use Prim.Native.Nat.{_*_, _<_};
+ghost use mathlib.Core.List.{_++_};
+ghost use lib.ListN.{take, drop};
+ghost use Rattle.names.specs.Table.{operations};
+ghost use Rattle.rules.specs.Records.{listing};
+ghost use Rattle.rules.specs.Calls as rules;
+ghost use Rattle.rules.specs.Statements.{fullRead};
+ghost use Rattle.parser.specs.Lent.{foreignPlace, lentOf, lentAtOf};
+ghost use Rattle.parser.specs.Statements.{Started};
+ghost use Rattle.parser.specs.Calls.{FullRead, OneRead, Writes, tokenAnswer, fullAnswer, statementAnswer};
+ghost use Rattle.lexer.specs.Tokens.{faultNumber};
+
+// The token and the state behind it.
+pub enum TokenAnswer {
+    Read(Token, Cursor),
+    Refused(Refusal),
+}
+
+// How many bytes were written, and the place of the token ahead.
+pub enum StatementAnswer {
+    Written(u32, u32),
+    NoneLeft,
+    Refused(Refusal),
+}
+
+// How many bytes were written.
+pub enum FullAnswer {
+    Written(u32),
+    Refused(Refusal),
+}
+
+// Whether the source is one to read: 42, 1 and 2.
+pub enum Lent {
+    Accepted,
+    Refused(Refusal),
+}
+
+// The place of the first byte above 127, or the source's length.
+fn foreign(source: &[u8]) -> usize
+    ensures { λ r. ⌜ r ≡ foreignPlace (now (source .entry)) ⌝ }
+{
+    let mut i: usize = 0;
+    while i < source.len() {
+        if 127 < source[i] {
+            return i;
+        }
+        i += 1;
+    }
+    i
+}
+
+// 1 and 2, over the whole source.
+fn readable(source: &[u8]) -> Lent
+    ensures { λ r. ⌜ r ≡ lentOf (now (source .entry)) ⌝ }
+{
+    if 65536 < source.len() {
+        return Lent::Refused(refused_at(1, 0, 0));
+    }
+    let place = foreign(source);
+    if place < source.len() {
+        let from = place as u32;
+        return Lent::Refused(refused_at(2, from, from + 1));
+    }
+    Lent::Accepted
+}
+
+// The same, after 42.
+fn readable_at(source: &[u8], place: usize) -> Lent
+    ensures { λ r. ⌜ r ≡ lentAtOf (now (source .entry)) place ⌝ }
+{
+    if source.len() < place {
+        return Lent::Refused(refused_at(42, 0, 0));
+    }
+    readable(source)
+}
+
+// The first `n` bytes.
+fn copy(out: &mut [u8], kept: &[u8], n: usize)
+    requires { ⌜ (n ≤ length (now kept)) × (n ≤ length (now out)) ⌝ }
+    ensures { λ _. ⌜ now (out .exit) ≡ rules.overwrite (take n (now (kept .entry))) (now (out .entry)) ⌝ }
+{
+    let mut i: usize = 0;
+    while i < n {
+        out[i] = kept[i];
+        i += 1;
+    }
+}
+
+// All statements, read into `kept`, and copied where they fit there; else read again into `out`.
+fn keep_and_copy(
+    source: &[u8],
+    table: &[u8; 936],
+    kept: &mut [u8],
+    out: &mut [u8],
+    p: Parser,
+) -> FullAnswer
+    requires { ⌜ (length (now source) ≤ 65536) × (foreignPlace (now source) ≡ length (now source)) × (now table ≡ operations) × Started (now source) 0 p ⌝ }
+    ensures { λ r. ⌜ FullRead (now (source .entry)) (now (out .entry)) (now (out .exit)) r ⌝ }
+{
+    match statements(source, table, kept, 0, p) {
+        Parsed::Refused(r) => FullAnswer::Refused(r),
+        Parsed::Done(_, n) => {
+            let size = n as usize;
+            if out.len() < size {
+                return FullAnswer::Refused(refused_at(4, 0, 0));
+            }
+            if size <= kept.len() {
+                copy(out, kept, size);
+                return FullAnswer::Written(n);
+            }
+            match statements(source, table, out, 0, p) {
+                Parsed::Refused(r) => FullAnswer::Refused(r),
+                Parsed::Done(_, _) => FullAnswer::Written(n),
+            }
+        }
+    }
+}
+
+// They are kept in a local buffer of eight times the source or more, which most listings fit.
+fn all_statements(source: &[u8], table: &[u8; 936], out: &mut [u8], p: Parser) -> FullAnswer
+    requires { ⌜ (length (now source) ≤ 65536) × (foreignPlace (now source) ≡ length (now source)) × (now table ≡ operations) × Started (now source) 0 p ⌝ }
+    ensures { λ r. ⌜ FullRead (now (source .entry)) (now (out .entry)) (now (out .exit)) r ⌝ }
+{
+    if source.len() <= 2048 {
+        let mut kept = [0u8; 16384];
+        return keep_and_copy(source, table, &mut kept, out, p);
+    }
+    if source.len() <= 16384 {
+        let mut kept = [0u8; 131072];
+        return keep_and_copy(source, table, &mut kept, out, p);
+    }
+    let mut kept = [0u8; 524288];
+    keep_and_copy(source, table, &mut kept, out, p)
+}
+
+// The full read of a source that is one to read.
+fn read_all(source: &[u8], out: &mut [u8]) -> FullAnswer
+    requires { ⌜ (length (now source) ≤ 65536) × (foreignPlace (now source) ≡ length (now source)) ⌝ }
+    ensures { λ r. ⌜ FullRead (now (source .entry)) (now (out .entry)) (now (out .exit)) r ⌝ }
+{
+    match start(source, 0) {
+        Step::Stopped(r) => FullAnswer::Refused(r),
+        Step::Ahead(p) => {
+            let table = names::table();
+            all_statements(source, &table, out, p)
+        }
+    }
+}
+
+// All statements of a source: their records in `out`, if there is room for all of them.
+pub fn full_read(source: &[u8], out: &mut [u8]) -> FullAnswer
+    ensures answer { λ r. ⌜ r ≡ fullAnswer (rules.fullCall operations (now (source .entry)) (length (now (out .entry)))) ⌝ }
+    ensures buffer { λ _. ⌜ now (out .exit) ≡ rules.fullBuffer operations (now (source .entry)) (now (out .entry)) ⌝ }
+    ensures written { λ r. ⌜ Writes (now (source .entry)) (now (out .exit)) r ⌝ }
+{
+    match readable(source) {
+        Lent::Refused(r) => FullAnswer::Refused(r),
+        Lent::Accepted => read_all(source, out),
+    }
+}
+
+// Measured first, and written where it fits.
+fn one_statement(source: &[u8], place: u32, table: &[u8; 936], out: &mut [u8], p: Parser) -> StatementAnswer
+    requires { ⌜ (length (now source) ≤ 65536) × (foreignPlace (now source) ≡ length (now source)) × (place ≤ length (now source)) × (now table ≡ operations) × Started (now source) place p ⌝ }
+    ensures { λ r. ⌜ OneRead (now (source .entry)) place (now (out .entry)) (now (out .exit)) r ⌝ }
+{
+    let mut nothing = [0u8; 0];
+    match statement(source, table, &mut nothing, 0, p) {
+        StatementRead::Refused(r) => StatementAnswer::Refused(r),
+        StatementRead::NoneLeft(_) => StatementAnswer::NoneLeft,
+        StatementRead::Read(q, n) => {
+            let size = n as usize;
+            if out.len() < size {
+                return StatementAnswer::Refused(refused_at(4, 0, 0));
+            }
+            match statement(source, table, out, 0, p) {
+                StatementRead::Refused(r) => StatementAnswer::Refused(r),
+                StatementRead::NoneLeft(_) => StatementAnswer::NoneLeft,
+                StatementRead::Read(_, _) => StatementAnswer::Written(n, q.token_start),
+            }
+        }
+    }
+}
+
+// The statement at a place of a source that is one to read.
+fn read_one(source: &[u8], place: u32, out: &mut [u8]) -> StatementAnswer
+    requires { ⌜ (length (now source) ≤ 65536) × (foreignPlace (now source) ≡ length (now source)) × (place ≤ length (now source)) ⌝ }
+    ensures { λ r. ⌜ OneRead (now (source .entry)) place (now (out .entry)) (now (out .exit)) r ⌝ }
+{
+    match start(source, place) {
+        Step::Stopped(r) => StatementAnswer::Refused(r),
+        Step::Ahead(p) => {
+            let table = names::table();
+            one_statement(source, place, &table, out, p)
+        }
+    }
+}
+
+// The statement at a place: its records in `out`, if there is room for all of them.
+pub fn statement_read(source: &[u8], place: usize, out: &mut [u8]) -> StatementAnswer
+    ensures answer { λ r. ⌜ r ≡ statementAnswer (rules.statementCall operations (now (source .entry)) place (length (now (out .entry)))) ⌝ }
+    ensures buffer { λ _. ⌜ now (out .exit) ≡ rules.statementBuffer operations (now (source .entry)) place (now (out .entry)) ⌝ }
+{
+    match readable_at(source, place) {
+        Lent::Refused(r) => StatementAnswer::Refused(r),
+        Lent::Accepted => read_one(source, place as u32, out),
+    }
+}
+
+fn fault_number(fault: Fault) -> u8
+    ensures { λ r. ⌜ r ≡ faultNumber fault ⌝ }
+{
+    match fault {
+        Fault::LargerDigit => 30,
+        Fault::TooLarge => 31,
+    }
+}
+
+// The token at a place, and the state behind it.
+pub fn token_read(source: &[u8], place: usize) -> TokenAnswer
+    ensures { λ r. ⌜ r ≡ tokenAnswer place (rules.tokenCall (now (source .entry)) place) ⌝ }
+{
+    match readable_at(source, place) {
+        Lent::Refused(r) => TokenAnswer::Refused(r),
+        Lent::Accepted => {
+            let cursor = Cursor { pos: place };
+            match cursor.next_token(source) {
+                Next::Token(token, after) => TokenAnswer::Read(token, after),
+                Next::Refused(fault, from, to) => {
+                    TokenAnswer::Refused(refused_at(fault_number(fault), from as u32, to as u32))
+                }
+            }
+        }
+    }
+}

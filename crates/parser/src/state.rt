@@ -1,0 +1,163 @@
+// The parser's state, one token ahead, and the steps that all readers share.
+ghost use mathlib.Core.Path.{_≡_};
+ghost use Prim.Native.Nat.{ℕ, _≤_};
+ghost use lib.ListN.{length};
+ghost use mathlib.Core.Bool.{true, false, _||_};
+ghost use lib.Dec.{eqb};
+ghost use Rattle.rules.specs.Reader.{at};
+ghost use Rattle.rules.specs.Reader.{next as nextToken};
+ghost use Rattle.rules.specs.Statements.{nextRow};
+ghost use Rattle.parser.specs.Views.{numbersOf, textOf, line, whole, Passes, Fetches, Expects};
+
+// The token ahead stands from `token_start` to before `pos`; the last one passed in its line ended at `last_token_end`.
+// `kind` and `value` are the token's, as the lexer's scan gives them.
+pub struct Parser {
+    pub pos: u32,
+    pub token_start: u32,
+    pub last_token_end: u32,
+    pub kind: u8,
+    pub value: u32,
+}
+
+// A register that is not there is 255.
+pub struct Refusal {
+    pub number: u8,
+    pub from: u32,
+    pub to: u32,
+    pub first: u8,
+    pub second: u8,
+}
+
+pub enum Step {
+    Ahead(Parser),
+    Stopped(Refusal),
+}
+
+// The answer of a reader that writes: the state and the place behind its records.
+pub enum Parsed {
+    Done(Parser, u32),
+    Refused(Refusal),
+}
+
+pub fn refused_at(number: u8, from: u32, to: u32) -> Refusal
+    ensures { λ r. ⌜ r ≡ numbersOf (at number from to) ⌝ }
+{
+    Refusal {
+        number: number,
+        from: from,
+        to: to,
+        first: 255,
+        second: 255,
+    }
+}
+
+// Refused on the token ahead.
+pub fn refuse_here(p: Parser, number: u8) -> Refusal
+    ensures { λ r. ⌜ r ≡ numbersOf (at number (p .«token_start») (p .pos)) ⌝ }
+{
+    refused_at(number, p.token_start, p.pos)
+}
+
+// A token that means something, where it stands.
+struct Fetched {
+    start: u32,
+    end: u32,
+    kind: u8,
+    value: u32,
+}
+
+// The first token from a place on, past whitespace and comments.
+fn fetch(src: &[u8], place: u32) -> Fetched
+    requires { ⌜ length (now src) ≤ 65536 ⌝ }
+    ensures { λ r. ⌜ Fetches (now (src .entry)) place (r .start) (r .end) (r .kind) (r .value) ⌝ }
+{
+    let mut at = place;
+    loop {
+        let t = lexer::scan(src, at as usize);
+        let kind = t.kind;
+        let end = t.end as u32;
+        if (kind == 32) | (kind == 59) {
+            at = end;
+        } else {
+            return Fetched {
+                start: at,
+                end: end,
+                kind: kind,
+                value: t.value,
+            };
+        }
+    }
+}
+
+// A number that is refused: 30 and 31.
+fn is_fault(kind: u8) -> bool
+    ensures { λ r. ⌜ r ≡ (eqb kind 30 || eqb kind 31) ⌝ }
+{
+    (kind == 30) | (kind == 31)
+}
+
+// The next token of the line becomes the one ahead.
+pub fn next(src: &[u8], p: Parser) -> Step
+    requires { ⌜ (length (now src) ≤ 65536) × (eqb (p .kind) 10 ≡ false) × (eqb (p .kind) 0 ≡ false) ⌝ }
+    ensures { λ r. ⌜ Passes line (now (src .entry)) p nextToken r ⌝ }
+{
+    let t = fetch(src, p.pos);
+    if is_fault(t.kind) {
+        return Step::Stopped(refused_at(t.kind, t.start, t.end));
+    }
+    Step::Ahead(Parser {
+        pos: t.end,
+        token_start: t.start,
+        last_token_end: p.pos,
+        kind: t.kind,
+        value: t.value,
+    })
+}
+
+// The first token of the next line becomes the one ahead; no token of that line is passed yet.
+pub fn next_line(src: &[u8], p: Parser) -> Step
+    requires { ⌜ (length (now src) ≤ 65536) × (eqb (p .kind) 10 ≡ true) ⌝ }
+    ensures { λ r. ⌜ Passes whole (now (src .entry)) p nextRow r ⌝ }
+{
+    let t = fetch(src, p.pos);
+    if is_fault(t.kind) {
+        return Step::Stopped(refused_at(t.kind, t.start, t.end));
+    }
+    Step::Ahead(Parser {
+        pos: t.end,
+        token_start: t.start,
+        last_token_end: t.start,
+        kind: t.kind,
+        value: t.value,
+    })
+}
+
+// Past the token ahead, which has to be the mark of this character.
+pub fn expect(src: &[u8], p: Parser, mark: u8, number: u8) -> Step
+    requires { ⌜ (length (now src) ≤ 65536) × (eqb mark 10 ≡ false) × (eqb mark 0 ≡ false) ⌝ }
+    ensures { λ r. ⌜ Expects (now (src .entry)) p mark number r ⌝ }
+{
+    if p.kind == mark {
+        return next(src, p);
+    }
+    Step::Stopped(refuse_here(p, number))
+}
+
+// A line ends at its line feed or at the end of the source.
+pub fn is_line_end(kind: u8) -> bool
+    ensures { λ r. ⌜ r ≡ (eqb kind 10 || eqb kind 0) ⌝ }
+{
+    (kind == 10) | (kind == 0)
+}
+
+// The token's bytes.
+pub fn text(src: &[u8], p: Parser) -> &[u8]
+    ensures { λ r. ⌜ now r ≡ textOf (now (src .entry)) (p .«token_start») (p .pos) ⌝ }
+{
+    let from = p.token_start as usize;
+    let to = p.pos as usize;
+    if from < to {
+        return lexer::source_at(src, from, to - from);
+    }
+    lexer::source_at(src, from, 0)
+}

@@ -1,0 +1,434 @@
+// Statements: labels, instructions, constants, data and `times`.
+use super::expressions::expression;
+use super::operands::OperandsRead;
+use super::operands::operands;
+use super::state::Parsed;
+use super::state::Parser;
+use super::state::Refusal;
+use super::state::Step;
+use super::state::is_line_end;
+use super::state::next;
+use super::state::next_line;
+use super::state::refuse_here;
+use super::state::refused_at;
+use super::state::text;
+use names::Directive;
+use names::Found;
+ghost use mathlib.Core.Path.{_≡_};
+ghost use mathlib.Core.Bool.{true, false, _||_};
+ghost use Prim.Native.Nat.{ℕ, _≤_};
+ghost use lib.Dec.{eqb};
+ghost use lib.ListN.{length, take};
+ghost use Rattle.names.specs.Keys as keys;
+ghost use Rattle.rules.specs.Records.{field};
+ghost use Rattle.rules.specs.Statements as rules;
+ghost use Rattle.records.specs.Writes.{Wrote};
+ghost use Rattle.parser.specs.Views.{hereOf, whole, Passes, Reads};
+ghost use Rattle.parser.specs.Statements as answers;
+
+// A statement with the place behind its records, or none left before the end of the source.
+pub enum StatementRead {
+    Read(Parser, u32),
+    NoneLeft(Parser),
+    Refused(Refusal),
+}
+
+// The place behind the bytes of a literal, and whether it has at least one.
+enum LiteralRead {
+    Bytes(u32, bool),
+    Refused(Refusal),
+}
+
+// The place behind the bytes of literals, and whether there is at least one byte.
+enum LiteralsRead {
+    Done(Parser, u32, bool),
+    Refused(Refusal),
+}
+
+// The line has to end here; to the next one.
+fn line_end(src: &[u8], p: Parser) -> Step
+    requires { ⌜ length (now src) ≤ 65536 ⌝ }
+    ensures { λ r. ⌜ Passes whole (now (src .entry)) p rules.lineEnd r ⌝ }
+{
+    let kind = p.kind;
+    if kind == 10 {
+        return next_line(src, p);
+    }
+    if kind == 0 {
+        return Step::Ahead(p);
+    }
+    Step::Stopped(refuse_here(p, 10))
+}
+
+// Past empty lines, to the first token of a line that has one, or to the end.
+fn skip_lines(src: &[u8], p: Parser) -> Step
+    requires { ⌜ length (now src) ≤ 65536 ⌝ }
+    ensures { λ r. ⌜ Passes whole (now (src .entry)) p rules.skipLines r ⌝ }
+{
+    let mut q = p;
+    while q.kind == 10 {
+        match next_line(src, q) {
+            Step::Stopped(r) => {
+                return Step::Stopped(r);
+            }
+            Step::Ahead(after) => {
+                q = after;
+            }
+        }
+    }
+    Step::Ahead(q)
+}
+
+// A label and its colon, if there is one, which is no part of it.
+fn label(src: &[u8], out: &mut [u8], at: u32, p: Parser) -> Parsed
+    requires { ⌜ (length (now src) ≤ 65536) × (p .kind ≡ 97) ⌝ }
+    ensures { λ r. ⌜ Reads whole (now (src .entry)) p (rules.passing (rules.inLine (rules.label (hereOf (now (src .entry)) p)))) at (now (out .entry)) (now (out .exit)) r ⌝ }
+{
+    let from = p.token_start;
+    let to = p.pos;
+    match next(src, p) {
+        Step::Stopped(r) => Parsed::Refused(r),
+        Step::Ahead(q) => {
+            if q.kind == b':' {
+                match next(src, q) {
+                    Step::Stopped(r) => Parsed::Refused(r),
+                    Step::Ahead(after) => {
+                        let w = records::put_span(out, at, b'L', b'L', from, to);
+                        Parsed::Done(after, w)
+                    }
+                }
+            } else {
+                let w = records::put_span(out, at, b'L', b'L', from, to);
+                Parsed::Done(q, w)
+            }
+        }
+    }
+}
+
+const REP: u8 = 46;
+
+const REPNE: u8 = 47;
+
+fn is_repeat(operation: u8) -> bool
+    ensures { λ r. ⌜ r ≡ (eqb operation rules.rep || eqb operation rules.repne) ⌝ }
+{
+    (operation == REP) | (operation == REPNE)
+}
+
+// An instruction; `rep` and `repne` take no operands and need no line end.
+fn instruction(src: &[u8], out: &mut [u8], at: u32, p: Parser, operation: u8) -> Parsed
+    requires { ⌜ (length (now src) ≤ 65536) × (p .kind ≡ 97) ⌝ }
+    ensures { λ r. ⌜ Reads whole (now (src .entry)) p (rules.passing (rules.instruction (hereOf (now (src .entry)) p) operation)) at (now (out .entry)) (now (out .exit)) r ⌝ }
+{
+    let from = p.token_start;
+    match next(src, p) {
+        Step::Stopped(r) => Parsed::Refused(r),
+        Step::Ahead(q) => {
+            if is_repeat(operation) {
+                let to = q.last_token_end;
+                let w = records::put_instruction(out, at, from, to, operation as u32, 0, to, to);
+                return Parsed::Done(q, w);
+            }
+            match operands(src, out, at, q) {
+                OperandsRead::Refused(r) => Parsed::Refused(r),
+                OperandsRead::Done(end, w, o) => {
+                    let to = end.last_token_end;
+                    match line_end(src, end) {
+                        Step::Stopped(r) => Parsed::Refused(r),
+                        Step::Ahead(below) => {
+                            let n = records::put_instruction(
+                                out,
+                                w,
+                                from,
+                                to,
+                                operation as u32,
+                                o.count,
+                                o.from,
+                                o.to,
+                            );
+                            Parsed::Done(below, n)
+                        }
+                    }
+                }
+            }
+        }
+    }
+}
+
+// `equ` and its expression.
+fn constant(src: &[u8], out: &mut [u8], at: u32, p: Parser) -> Parsed
+    requires { ⌜ (length (now src) ≤ 65536) × (p .kind ≡ 97) ⌝ }
+    ensures { λ r. ⌜ Reads whole (now (src .entry)) p (rules.passing (rules.constant (hereOf (now (src .entry)) p))) at (now (out .entry)) (now (out .exit)) r ⌝ }
+{
+    let from = p.token_start;
+    match next(src, p) {
+        Step::Stopped(r) => Parsed::Refused(r),
+        Step::Ahead(q) => match expression(src, out, at, q, 0, 32) {
+            Parsed::Refused(r) => Parsed::Refused(r),
+            Parsed::Done(end, w) => {
+                let to = end.last_token_end;
+                match line_end(src, end) {
+                    Step::Stopped(r) => Parsed::Refused(r),
+                    Step::Ahead(below) => {
+                        let n = records::put_span(out, w, b'L', b'C', from, to);
+                        Parsed::Done(below, n)
+                    }
+                }
+            }
+        },
+    }
+}
+
+// Bytes, one behind the other.
+fn put_bytes(out: &mut [u8], at: u32, b: &[u8]) -> u32
+    ensures { λ r. ⌜ Wrote at (now (b .entry)) (now (out .entry)) (now (out .exit)) r ⌝ }
+{
+    let mut w = at;
+    let mut i: usize = 0;
+    while i < b.len() {
+        w = records::put(out, w, b[i]);
+        i += 1;
+    }
+    w
+}
+
+// The characters of a closed string, without its quotes.
+fn put_characters(out: &mut [u8], at: u32, word: &[u8]) -> u32
+    ensures { λ r. ⌜ Wrote at (answers.between (now (word .entry))) (now (out .entry)) (now (out .exit)) r ⌝ }
+{
+    let n = word.len();
+    if n < 2 {
+        return at;
+    }
+    put_bytes(out, at, &word[1..n - 1])
+}
+
+// The low bytes of a number, one or two of them.
+fn put_number(out: &mut [u8], at: u32, v: u32, width: u8) -> u32
+    requires { ⌜ (1 ≤ width) × (width ≤ 2) ⌝ }
+    ensures { λ r. ⌜ Wrote at (take width (field v)) (now (out .entry)) (now (out .exit)) r ⌝ }
+{
+    let w = records::put(out, at, (v % 256) as u8);
+    if width == 1 {
+        return w;
+    }
+    records::put(out, w, (v / 256 % 256) as u8)
+}
+
+// The bytes of the literal ahead; a comma has none.
+fn literal(src: &[u8], out: &mut [u8], at: u32, p: Parser, width: u8) -> LiteralRead
+    requires { ⌜ (eqb (p .kind) 10 ≡ false) × (eqb (p .kind) 0 ≡ false) × (1 ≤ width) × (width ≤ 2) ⌝ }
+    ensures { λ r. ⌜ answers.ReadsLiteral (now (src .entry)) p width at (now (out .entry)) (now (out .exit)) r ⌝ }
+{
+    let kind = p.kind;
+    if kind == b',' {
+        return LiteralRead::Bytes(at, false);
+    }
+    if kind == b'0' {
+        let w = put_number(out, at, p.value, width);
+        return LiteralRead::Bytes(w, true);
+    }
+    if kind == b'\'' {
+        let word = text(src, p);
+        let w = put_characters(out, at, word);
+        return LiteralRead::Bytes(w, 2 < word.len());
+    }
+    if kind == b'"' {
+        return LiteralRead::Refused(refuse_here(p, 26));
+    }
+    LiteralRead::Refused(refuse_here(p, 15))
+}
+
+// The bytes of the literals up to the line's end.
+fn literals(src: &[u8], out: &mut [u8], at: u32, p: Parser, width: u8) -> LiteralsRead
+    requires { ⌜ (length (now src) ≤ 65536) × (1 ≤ width) × (width ≤ 2) ⌝ }
+    ensures { λ r. ⌜ answers.ReadsLiterals (now (src .entry)) p width at (now (out .entry)) (now (out .exit)) r ⌝ }
+{
+    let mut q = p;
+    let mut w = at;
+    let mut some = false;
+    loop {
+        let kind = q.kind;
+        if is_line_end(kind) {
+            return LiteralsRead::Done(q, w, some);
+        }
+        match literal(src, out, w, q, width) {
+            LiteralRead::Refused(r) => {
+                return LiteralsRead::Refused(r);
+            }
+            LiteralRead::Bytes(n, more) => match next(src, q) {
+                Step::Stopped(r) => {
+                    return LiteralsRead::Refused(r);
+                }
+                Step::Ahead(after) => {
+                    q = after;
+                    w = n;
+                    some = some | more;
+                }
+            },
+        }
+    }
+}
+
+// `db` or `dw` and its literals: their bytes stand behind the record's 14, which are written when their count is known.
+fn data_of(src: &[u8], out: &mut [u8], at: u32, p: Parser, width: u8) -> Parsed
+    requires { ⌜ (length (now src) ≤ 65536) × (p .kind ≡ 97) × (1 ≤ width) × (width ≤ 2) ⌝ }
+    ensures { λ r. ⌜ Reads whole (now (src .entry)) p (rules.passing (rules.dataOf (hereOf (now (src .entry)) p) width)) at (now (out .entry)) (now (out .exit)) r ⌝ }
+{
+    let from = p.token_start;
+    let first = records::data_place(at);
+    match next(src, p) {
+        Step::Stopped(r) => Parsed::Refused(r),
+        Step::Ahead(q) => match literals(src, out, first, q, width) {
+            LiteralsRead::Refused(r) => Parsed::Refused(r),
+            LiteralsRead::Done(end, w, some) => {
+                if some {
+                    let to = end.last_token_end;
+                    match line_end(src, end) {
+                        Step::Stopped(r) => Parsed::Refused(r),
+                        Step::Ahead(below) => {
+                            records::put_record(out, at, b'L', b'D', from, to, w - first);
+                            Parsed::Done(below, w)
+                        }
+                    }
+                } else {
+                    Parsed::Refused(refused_at(23, from, p.pos))
+                }
+            }
+        },
+    }
+}
+
+// A statement whose first token is ahead; `left` more `times` may begin.
+fn line(src: &[u8], table: &[u8; 936], out: &mut [u8], at: u32, p: Parser, left: u32) -> Parsed
+    requires { ⌜ (length (now src) ≤ 65536) × (keys.goodTable (now table) ≡ true) ⌝ }
+    ensures { λ r. ⌜ Reads whole (now (src .entry)) p (rules.line (now (table .entry)) (rules.times (now (table .entry)) left)) at (now (out .entry)) (now (out .exit)) r ⌝ }
+{
+    if p.kind != b'a' {
+        return Parsed::Refused(refuse_here(p, 20));
+    }
+    let word = text(src, p);
+    match names::operation(table, word) {
+        Found::Operation(operation) => instruction(src, out, at, p, operation),
+        Found::Nothing => match names::directive_of(word) {
+            Directive::Equ => constant(src, out, at, p),
+            Directive::Db => data_of(src, out, at, p, 1),
+            Directive::Dw => data_of(src, out, at, p, 2),
+            Directive::Times => times(src, table, out, at, p, left),
+            Directive::Other => label(src, out, at, p),
+        },
+    }
+}
+
+// `times`, its expression and its content, which may stand on a later line.
+fn times(src: &[u8], table: &[u8; 936], out: &mut [u8], at: u32, p: Parser, left: u32) -> Parsed
+    requires { ⌜ (length (now src) ≤ 65536) × (keys.goodTable (now table) ≡ true) × (p .kind ≡ 97) ⌝ }
+    ensures { λ r. ⌜ Reads whole (now (src .entry)) p (rules.times (now (table .entry)) left) at (now (out .entry)) (now (out .exit)) r ⌝ }
+{
+    if left == 0 {
+        return Parsed::Refused(refuse_here(p, 5));
+    }
+    match next(src, p) {
+        Step::Stopped(r) => Parsed::Refused(r),
+        Step::Ahead(q) => match expression(src, out, at, q, 0, 32) {
+            Parsed::Refused(r) => Parsed::Refused(r),
+            Parsed::Done(end, w) => match skip_lines(src, end) {
+                Step::Stopped(r) => Parsed::Refused(r),
+                Step::Ahead(below) => content(src, table, out, w, below, p, left - 1),
+            },
+        },
+    }
+}
+
+// The content of a `times` whose word was ahead in `word`.
+fn content(
+    src: &[u8],
+    table: &[u8; 936],
+    out: &mut [u8],
+    at: u32,
+    p: Parser,
+    word: Parser,
+    left: u32,
+) -> Parsed
+    requires { ⌜ (length (now src) ≤ 65536) × (keys.goodTable (now table) ≡ true) ⌝ }
+    ensures { λ r. ⌜ Reads whole (now (src .entry)) p (rules.content (now (table .entry)) (rules.times (now (table .entry)) left) (hereOf (now (src .entry)) word)) at (now (out .entry)) (now (out .exit)) r ⌝ }
+{
+    let kind = p.kind;
+    if is_line_end(kind) {
+        return Parsed::Refused(refuse_here(word, 34));
+    }
+    match line(src, table, out, at, p, left) {
+        Parsed::Refused(r) => Parsed::Refused(r),
+        Parsed::Done(q, w) => {
+            let n = records::put_span(out, w, b'L', b'T', 0, 0);
+            Parsed::Done(q, n)
+        }
+    }
+}
+
+// A statement, its first token's place before it, or the answer that none is left.
+pub fn statement(src: &[u8], table: &[u8; 936], out: &mut [u8], at: u32, p: Parser) -> StatementRead
+    requires { ⌜ (length (now src) ≤ 65536) × (keys.goodTable (now table) ≡ true) ⌝ }
+    ensures { λ r. ⌜ answers.ReadsStatement (now (table .entry)) (now (src .entry)) p at (now (out .entry)) (now (out .exit)) r ⌝ }
+{
+    match skip_lines(src, p) {
+        Step::Stopped(r) => StatementRead::Refused(r),
+        Step::Ahead(q) => {
+            let kind = q.kind;
+            if is_line_end(kind) {
+                return StatementRead::NoneLeft(q);
+            }
+            let w = records::put_place(out, at, b'S', b'T', q.token_start);
+            match line(src, table, out, w, q, 16) {
+                Parsed::Refused(r) => StatementRead::Refused(r),
+                Parsed::Done(after, n) => StatementRead::Read(after, n),
+            }
+        }
+    }
+}
+
+// The first token from a place on is ahead, as behind a line feed.
+pub fn start(src: &[u8], place: u32) -> Step
+    requires { ⌜ length (now src) ≤ 65536 ⌝ }
+    ensures { λ r. ⌜ answers.Starts (now (src .entry)) place r ⌝ }
+{
+    next_line(
+        src,
+        Parser {
+            pos: place,
+            token_start: place,
+            last_token_end: place,
+            kind: 10,
+            value: 0,
+        },
+    )
+}
+
+// Statements until none is left: the place behind all records.
+pub fn statements(
+    src: &[u8],
+    table: &[u8; 936],
+    out: &mut [u8],
+    at: u32,
+    p: Parser,
+) -> Parsed
+    requires { ⌜ (length (now src) ≤ 65536) × (keys.goodTable (now table) ≡ true) ⌝ }
+    ensures { λ r. ⌜ answers.ReadsStatements (now (table .entry)) (now (src .entry)) p at (now (out .entry)) (now (out .exit)) r ⌝ }
+{
+    let mut q = p;
+    let mut w = at;
+    loop {
+        match statement(src, table, out, w, q) {
+            StatementRead::Refused(r) => {
+                return Parsed::Refused(r);
+            }
+            StatementRead::NoneLeft(end) => {
+                return Parsed::Done(end, w);
+            }
+            StatementRead::Read(after, n) => {
+                q = after;
+                w = n;
+            }
+        }
+    }
+}
