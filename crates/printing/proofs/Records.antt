@@ -1,5 +1,5 @@
 -- The records that bytes begin with, one after the other, and their lines.
-use Prim.Native.Nat.{ℕ, zero, suc, pred, _+_, _-_, _≤_, _<_}
+use Prim.Native.Nat.{ℕ, zero, suc, pred, _+_, _*_, _-_, _≤_, _<_}
 use mathlib.Core.Path.{_≡_, refl, sym, ap, _∙_}
 use mathlib.Core.Bool.{true≢false}
 use mathlib.Core.List.{List, [], _∷_, _++_, append-assoc, append-nil}
@@ -14,6 +14,7 @@ use Rattle.rules.specs.Decode.{Sized, recordOf, also, recordsFrom, decode}
 use Rattle.printing.specs.Text.{Wrote, Holds}
 use Rattle.printing.specs.Lines.{line, lineOf, linesOf, textOf, recordsIn, Printed}
 use Rattle.printing.proofs.Writes.{nothing, follows, reads-as, wrote-length, holds}
+use Rattle.printing.proofs.Room.{end-most}
 use Rattle.printing.proofs.Shapes.{tail}
 
 records-skip : (k : ℕ) (b : List ℕ) → recordsIn k b ≡ recordsIn 0 (drop k b)
@@ -50,12 +51,13 @@ pub record Begun (b : List ℕ) (at count : ℕ) (l l′ : List ℕ) (to : ℕ) 
   pub counted : count ≡ length done
   pub few : count ≤ at
   pub within : at ≤ length b
+  pub short : length (linesOf done) ≤ 6 * at
   pub wrote : Wrote 0 (linesOf done) l l′ to
   pub rest : recordsIn 0 b ≡ done ++ recordsIn 0 (drop at b)
 
 pub begun : (b l : List ℕ) → Begun b 0 0 l l 0
 unfolding linesOf
-begun b l = record { done = []; counted = refl; few = omega arith; within = omega arith; wrote = nothing 0 l; rest = refl }
+begun b l = record { done = []; counted = refl; few = omega arith; within = omega arith; short = omega arith; wrote = nothing 0 l; rest = refl }
 
 pub begun-more : {b : List ℕ} {at count size to w : ℕ} {l l₁ l₂ : List ℕ} → Begun b at count l l₁ to → Printed (take (length b - at) (drop at b)) size to l₁ l₂ w → Begun b (at + size) (count + 1) l l₂ w
 begun-more {b} {at} {count} {size} {to} {w} {l} {l₁} {l₂} g p₀ =
@@ -69,15 +71,22 @@ begun-more {b} {at} {count} {size} {to} {w} {l} {l₁} {l₂} g p₀ =
       counted = omega (arith, length-append (g .done) (r ∷ []), g .counted);
       few = omega (arith, g .few);
       within = omega (arith, g .within);
+      short = rw (← lines-more (g .done) r) (omega (arith, length-append (linesOf (g .done)) (lineOf r), g .short, p .short));
       wrote = reads-as (lines-more (g .done) r) (follows (linesOf (g .done)) (lineOf r) (g .wrote) (p .wrote));
       rest = g .rest ∙ ap (λ (rs : List Record). g .done ++ rs) (records-one (drop at b) r size long fits (p .there) ∙ ap (λ (s : List ℕ). r ∷ recordsIn 0 s) (drop-drop size at b)) ∙ sym (append-assoc (g .done) (r ∷ []) (recordsIn 0 (drop (at + size) b)));
     }
 
-pub ended : {b : List ℕ} {at count to r : ℕ} {l l₁ l₂ : List ℕ} → Begun b at count l l₁ to → recordsIn 0 (drop at b) ≡ [] → Wrote to (line "END" (count ∷ [])) l₁ l₂ r → Wrote 0 (textOf (recordsIn 0 b)) l l₂ r
-unfolding textOf
-ended {b} {count = count} g e x =
-    let all : recordsIn 0 b ≡ g .done = g .rest ∙ ap (λ (rs : List Record). g .done ++ rs) e ∙ append-nil (g .done) in
-    rw (all, ← g .counted) (follows (linesOf (g .done)) (line "END" (count ∷ [])) (g .wrote) x)
+module _ {b : List ℕ} {at count to : ℕ} {l l₁ : List ℕ} (g : Begun b at count l l₁ to) (e : recordsIn 0 (drop at b) ≡ []) where
+  all-done : recordsIn 0 b ≡ g .done
+  all-done = g .rest ∙ ap (λ (rs : List Record). g .done ++ rs) e ∙ append-nil (g .done)
+
+  pub ended : {r : ℕ} {l₂ : List ℕ} → Wrote to (line "END" (count ∷ [])) l₁ l₂ r → Wrote 0 (textOf (recordsIn 0 b)) l l₂ r
+  unfolding textOf
+  ended x = rw (all-done, ← g .counted) (follows (linesOf (g .done)) (line "END" (count ∷ [])) (g .wrote) x)
+
+  pub ended-short : length (textOf (recordsIn 0 b)) ≤ 6 * length b + 25
+  unfolding textOf
+  ended-short = rw (all-done, ← g .counted) (omega (arith, length-append (linesOf (g .done)) (line "END" (count ∷ [])), g .short, g .within, end-most count))
 
 -- A listing has no other bytes: its text is that of its records.
 records-all : (k : ℕ) (b : List ℕ) (w : List Record) → recordsFrom k b ≡ some w → recordsIn k b ≡ w

@@ -6,7 +6,7 @@ use mathlib.Core.List.{List, [], _∷_, _++_, append-assoc}
 use mathlib.Core.Option.{Option, none, some}
 use native.Mathlib.Omega.{arith}
 use lib.Dec.{eqb, leb}
-use lib.ListN.{length, take, drop, getD, length-drop}
+use lib.ListN.{length, take, drop, getD, length-drop, length-take, length-append}
 use lib.Seq.{length-take-le, take-all}
 use borrow.Author.Tests.{leb-true, lt-leb, le-leb, eqb-true, eq-eqb, ne-eqb}
 use Rattle.lexer.specs.Text.{if_then_else_, bytes, same}
@@ -165,9 +165,18 @@ no-mark (c ∷ []) h =
 no-mark (c ∷ d ∷ s) h = absurd (omega arith)
 
 -- the record at the head of s, with its mark
-pub printed : (s : List ℕ) (size : ℕ) (text : List ℕ) {at w : ℕ} {l l′ : List ℕ} → 2 ≤ length s → Lined (take 2 s) (drop 2 s) size text → Wrote at (take 2 s ++ text ++ bytes "\n") l l′ w → Printed s (2 + size) at l l′ w
-printed s size text h d x =
-    record { what = d .what; there = d .there; long = omega arith; fits = omega (arith, d .fits, length-drop 2 s); wrote = rw (d .said) x }
+pub printed : (s : List ℕ) (size : ℕ) (text : List ℕ) {at w : ℕ} {l l′ : List ℕ} → 2 ≤ length s → length text ≤ 6 * size + 9 → Lined (take 2 s) (drop 2 s) size text
+    → Wrote at (take 2 s ++ text ++ bytes "\n") l l′ w → Printed s (2 + size) at l l′ w
+unfolding bytes
+printed s size text h k d x =
+    record {
+      what = d .what;
+      there = d .there;
+      long = omega arith;
+      fits = omega (arith, d .fits, length-drop 2 s);
+      short = rw (d .said) (omega (arith, length-append (take 2 s ++ text) (bytes "\n"), length-append (take 2 s) text, length-take 2 s));
+      wrote = rw (d .said) x;
+    }
 
 pub two-letters : (s : List ℕ) → 2 ≤ length s → take 2 s ≡ getD s 0 0 ∷ getD s 1 0 ∷ []
 two-letters [] h = absurd (omega arith)

@@ -9,7 +9,10 @@ use lib.Dec.{leb}
 use lib.ListN.{length, take, drop}
 use Rattle.lexer.specs.Text.{if_then_else_, maybe, bytes}
 use Rattle.rules.specs.Records.{Record, ST, VC, VL, VI, VS, PF, IN, OR, OS, OI, OF, OD, OX, LL, LI, LD, LC, LT}
+use Rattle.rules.specs.Calls.{Result, gives, refuses}
 use Rattle.rules.specs.Decode.{Sized, nth, recordOf}
+use Rattle.parser.specs.declared.state.Refusal.{Refusal}
+use Rattle.parser.specs.Views.{numbersOf}
 use Rattle.printing.specs.declared.Shape.{Shape}
 use Rattle.printing.specs.declared.Shape.the-variants as shape
 use Rattle.printing.specs.declared.Line.{Line}
@@ -49,6 +52,11 @@ textOf rs = linesOf rs ++ line "END" (length rs ∷ [])
 
 unfoldable pub refusalText : ℕ → ℕ → ℕ → ℕ → ℕ → List ℕ
 refusalText number from to first second = line "REF" (number ∷ from ∷ to ∷ first ∷ second ∷ [])
+
+-- What is printed of a full read.
+unfoldable pub answerText : Result (List Record) → List ℕ
+answerText (gives rs) = textOf rs
+answerText (refuses c) = let r : Refusal = numbersOf c in refusalText (r .number) (r .from) (r .to) (r .first) (r .second)
 
 -- The records that bytes begin with, of which the first k belong to one that is already read. A listing has nothing else.
 unfoldable pub recordsIn : ℕ → List ℕ → List Record
@@ -92,6 +100,7 @@ pub record Printed (s : List ℕ) (size at : ℕ) (l l′ : List ℕ) (w : ℕ) 
   pub there : recordOf (take 2 s) (drop 2 s) ≡ some (record { what = what; size = size })
   pub long : 2 ≤ size
   pub fits : size ≤ length s
+  pub short : length (lineOf what) ≤ 6 * size
   pub wrote : Wrote at (lineOf what) l l′ w
 
 abbrev pub Prints : List ℕ → ℕ → List ℕ → List ℕ → Line → Type 0

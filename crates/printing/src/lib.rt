@@ -1,6 +1,8 @@
 // What the program `listing` prints: a listing's records as lines, or a refusal.
 mod text;
 
+use parser::reader::FullAnswer;
+use parser::reader::full_read;
 use text::put;
 use text::put_all;
 use text::put_number;
@@ -9,11 +11,13 @@ use text::put_signed;
 ghost use mathlib.Core.Path.{_≡_};
 ghost use mathlib.Core.List.{[], _∷_, _++_};
 ghost use Prim.Native.Nat.{_+_, _*_, _≤_, _<_};
-ghost use lib.ListN as ListN;
-ghost use lib.ListN.{take, drop};
+ghost use lib.ListN.{length};
+ghost use Rattle.io.specs.Counts.{Counts};
+ghost use Rattle.names.specs.Table.{operations};
+ghost use Rattle.rules.specs.Calls.{fullCall};
 ghost use Rattle.rules.specs.Decode.{nth};
 ghost use Rattle.printing.specs.Text.{numbers, Wrote, Holds};
-ghost use Rattle.printing.specs.Lines.{nths, lettersOf, fieldsIn, Shaped, Prints, line, textOf, refusalText, recordsIn};
+ghost use Rattle.printing.specs.Lines.{nths, lettersOf, fieldsIn, Shaped, Prints, line, textOf, refusalText, answerText, recordsIn};
 
 // The marks that records open with: two letters as a number.
 const ST: u32 = 0x5354;
@@ -82,7 +86,7 @@ fn joined(a: u8, b: u8, c: u8, d: u8) -> u32
 
 // The i-th field behind a mark.
 fn field(s: &[u8], i: usize) -> u32
-    requires { ⌜ 4 * i + 4 ≤ ListN.length (now s) ⌝ }
+    requires { ⌜ 4 * i + 4 ≤ length (now s) ⌝ }
     ensures { λ r. ⌜ r ≡ nth i (now (s .entry)) ⌝ }
 {
     let at = 4 * i;
@@ -152,7 +156,7 @@ fn shape_of(mark: u32, s: &[u8]) -> Shape
 
 // The mark and the first n fields.
 fn put_fields(out: &mut [u8], at: usize, a: u8, b: u8, s: &[u8], n: usize) -> usize
-    requires { ⌜ 4 * n ≤ ListN.length (now s) ⌝ }
+    requires { ⌜ 4 * n ≤ length (now s) ⌝ }
     ensures { λ r. ⌜ Wrote at (a ∷ b ∷ numbers (nths n (now (s .entry)))) (now (out .entry)) (now (out .exit)) r ⌝ }
 {
     let mut to = put(out, at, a);
@@ -207,6 +211,7 @@ fn put_end(out: &mut [u8], at: usize, count: u64) -> usize
 // The text of a listing in `out`, and its length: a line for each record that the bytes begin with, then `END` and their count.
 pub fn listing_text(listing: &[u8], out: &mut [u8]) -> usize
     ensures { λ r. ⌜ Holds (textOf (recordsIn 0 (now (listing .entry)))) (now (out .entry)) (now (out .exit)) r ⌝ }
+    ensures { λ _. ⌜ length (textOf (recordsIn 0 (now (listing .entry)))) ≤ 6 * length (now (listing .entry)) + 25 ⌝ }
 {
     let mut at = 0;
     let mut to = 0;
@@ -224,11 +229,11 @@ pub fn listing_text(listing: &[u8], out: &mut [u8]) -> usize
 
 // The text of a refusal in `out`, and its length.
 pub fn refusal_text(
-    number: u32,
+    number: u8,
     from: u32,
     to: u32,
-    first: u32,
-    second: u32,
+    first: u8,
+    second: u8,
     out: &mut [u8],
 ) -> usize
     ensures { λ r. ⌜ Holds (refusalText number from to first second) (now (out .entry)) (now (out .exit)) r ⌝ }
@@ -240,4 +245,22 @@ pub fn refusal_text(
     let at = put_number(out, at, first as u64);
     let at = put_number(out, at, second as u64);
     put(out, at, b'\n')
+}
+
+// The text of what the full read answers, and its length, with `listing` lent to that read. It is whole where `text` has 6 bytes for each
+// of the listing's, and 109 more.
+pub fn answer_text(source: &[u8], listing: &mut [u8], text: &mut [u8]) -> usize
+    ensures text { λ r. ⌜ Holds (answerText (fullCall operations (now (source .entry)) (length (now (listing .entry))))) (now (text .entry)) (now (text .exit)) r ⌝ }
+    ensures whole { λ r. ⌜ (6 * length (now (listing .entry)) + 109 ≤ length (now (text .entry)) → r ≡ length (answerText (fullCall operations (now (source .entry)) (length (now (listing .entry)))))) ⌝ }
+    ensures within { λ r. ⌜ Counts r (now (text .exit)) ⌝ }
+{
+    match full_read(source, listing) {
+        FullAnswer::Written(n) => {
+            let end = n as usize;
+            listing_text(&listing[0..end], text)
+        }
+        FullAnswer::Refused(r) => {
+            refusal_text(r.number, r.from, r.to, r.first, r.second, text)
+        }
+    }
 }

@@ -1,6 +1,7 @@
 -- The invariant: the records before the place are printed and counted. Where no record is left, their lines and the last one are the whole text.
 use Prim.Native.Nat.{_+_, _-_}
 use mathlib.Core.Path.{_≡_, refl, sym, ap, _∙_}
+use mathlib.Core.List.{[]}
 use native.Mathlib.Omega.{arith}
 use borrow.Author.Needs.{needs}
 use denote.Ref.{now}
@@ -9,7 +10,7 @@ use Rattle.printing.specs.Text.{Wrote}
 use Rattle.printing.specs.Lines.{textOf, recordsIn, Printed}
 use Rattle.printing.proofs.Writes.{wrote-length, holds}
 use Rattle.printing.proofs.Shapes.{tail}
-use Rattle.printing.proofs.Records.{Begun, begun, begun-more, ended, records-none}
+use Rattle.printing.proofs.Records.{Begun, begun, begun-more, ended, ended-short, records-none}
 use Rattle.printing.proofs.listing_text.Statement.{statement}
 use Rattle.printing.proofs.listing_text.Tie as tie
 use Rattle.printing.proofs.listing_text.Reads as reads
@@ -37,18 +38,24 @@ next : (c : tie.After-known-told Inv-loop μ-loop) →
 next c = begun-more (c .before .before .before .before .before .before .before .before .before .loop .inv) (printed c)
 
 -- where it found none
-nothing-more : (c : tie.After-slice-known3 Inv-loop μ-loop) → let a = c .before .before .before .before .before .before .before .before .before .before .before .before .before .before .before .args in Wrote 0 (textOf (recordsIn 0 (now (a .listing)))) (now (a .out)) (c .before .before .put-end .last .0) (c .before .before .put-end .result)
-nothing-more c =
+none-left : (c : tie.After-slice-known3 Inv-loop μ-loop) → recordsIn 0 (drop (c .before .before .before .before .before .before .before .before .before .before .before .before .loop .at) (now (c .before .before .before .before .before .before .before .before .before .before .before .before .before .before .before .args .listing))) ≡ []
+none-left c =
     let b = now (c .before .before .before .before .before .before .before .before .before .before .before .before .before .before .before .args .listing) in
     let l = c .before .before .before .before .before .before .before .before .before .before .before .before .loop in
+    records-none (drop (l .at) b) (rw (tail (l .at) b) at ((rw (c .before .before .before .before .enum-told .given .1) at (c .before .before .before .before .before .before .before .before .put-record .ensures)) .0))
+
+nothing-more : (c : tie.After-slice-known3 Inv-loop μ-loop) → let a = c .before .before .before .before .before .before .before .before .before .before .before .before .before .before .before .args in Wrote 0 (textOf (recordsIn 0 (now (a .listing)))) (now (a .out)) (c .before .before .put-end .last .0) (c .before .before .put-end .result)
+nothing-more c =
     let p = rw (c .before .before .before .before .enum-told .given .1) at (c .before .before .before .before .before .before .before .before .put-record .ensures) in
-    ended (l .inv) (records-none (drop (l .at) b) (rw (tail (l .at) b) at (p .0))) (rw (p .1) at (c .before .before .put-end .ensures))
+    ended (c .before .before .before .before .before .before .before .before .before .before .before .before .loop .inv) (none-left c) (rw (p .1) at (c .before .before .put-end .ensures))
+
+-- and at the listing's end
+at-end : (c : tie.After-slice-known4 Inv-loop μ-loop) → recordsIn 0 (drop (c .before .before .before .before .before .loop .at) (now (c .before .before .before .before .before .before .before .before .args .listing))) ≡ []
+unfolding recordsIn
+at-end c = ap (recordsIn 0) (drop-of-length-le (now (c .before .before .before .before .before .before .before .before .args .listing)) (c .before .before .before .before .loop-test .left))
 
 all : (c : tie.After-slice-known4 Inv-loop μ-loop) → let a = c .before .before .before .before .before .before .before .before .args in Wrote 0 (textOf (recordsIn 0 (now (a .listing)))) (now (a .out)) (c .before .before .put-end2 .last .0) (c .before .before .put-end2 .result)
-unfolding recordsIn
-all c =
-    let b = now (c .before .before .before .before .before .before .before .before .args .listing) in
-    ended (c .before .before .before .before .before .loop .inv) (ap (recordsIn 0) (drop-of-length-le b (c .before .before .before .before .loop-test .left))) (c .before .before .put-end2 .ensures)
+all c = ended (c .before .before .before .before .before .loop .inv) (at-end c) (c .before .before .put-end2 .ensures)
 
 loop-holds : tie.Need-loop-holds Inv-loop μ-loop
 loop-holds c = begun _ _
@@ -78,7 +85,7 @@ same-length : tie.Need-same-length Inv-loop μ-loop
 same-length c = wrote-length (nothing-more c)
 
 returns : tie.Need-returns Inv-loop μ-loop
-returns c = holds (nothing-more c)
+returns c = (holds (nothing-more c), ended-short (c .before .before .before .before .before .before .before .before .before .before .before .before .loop .inv) (none-left c))
 
 add-at : tie.Need-add-at Inv-loop μ-loop
 add-at c = omega (arith, next c .within)
@@ -99,7 +106,7 @@ same-length-2 : tie.Need-same-length-2 Inv-loop μ-loop
 same-length-2 c = wrote-length (all c)
 
 returns-2 : tie.Need-returns-2 Inv-loop μ-loop
-returns-2 c = holds (all c)
+returns-2 c = (holds (all c), ended-short (c .before .before .before .before .before .loop .inv) (at-end c))
 
 pub listing-text-spec : {M : Type 1} → statement M
 listing-text-spec =

@@ -11,6 +11,7 @@ use Rattle.rules.specs.Decode.{nth}
 use Rattle.printing.specs.Text.{numbers, signed}
 use Rattle.printing.specs.Lines.{nths, Lined, Shaped}
 use Rattle.printing.proofs.Writes.{follows, reads-as}
+use Rattle.printing.proofs.Room.{fields-short, value-short, data-short}
 use Rattle.printing.proofs.Shapes.{no-mark, printed, two-letters, tail, whole-line}
 use Rattle.printing.proofs.put_record.Statement.{statement}
 use Rattle.printing.proofs.put_record.Tie as tie
@@ -137,7 +138,7 @@ returns-2 c =
     let s = now (c .before .before .before .before .before .before .before .before .before .before .before .before .before .before .before .before .before .before .before .args .s) in
     let n = c .before .before .before .before .before .before .before .before .before .n .given .0 .0 in
     let h = c .before .before .before .before .before .before .before .before .before .before .before .before .before .before .before .before .if1 .left in
-    printed s _ _ h (fields′ (c .before .before .before .before .before .before .before .before .before)) (reads-as (whole-line s (λ r. numbers (nths n r)) h) (follows _ _ (c .before .before .before .before .before .before .put-fields .ensures) (c .before .before .put .ensures)))
+    printed s _ _ h (fields-short n (drop 2 s)) (fields′ (c .before .before .before .before .before .before .before .before .before)) (reads-as (whole-line s (λ r. numbers (nths n r)) h) (follows _ _ (c .before .before .before .before .before .before .put-fields .ensures) (c .before .before .put .ensures)))
 
 same-length-2 : tie.Need-same-length-2
 same-length-2 c = search needs
@@ -149,7 +150,7 @@ returns-3 c =
     let h = c .before .before .before .before .before .before .before .before .before .before .before .before .before .before .before .before .before .before .before .before .before .before .before .before .if1 .left in
     let x = follows _ _ (c .before .before .before .before .before .before .before .before .before .before .before .before .before .before .before .put-fields2 .ensures) (c .before .before .before .before .before .before .before .before .before .before .before .put2 .ensures) in
     let y = follows _ _ x (rw (c .before .before .before .before .before .before .before .field .ensures) at (c .before .before .before .before .before .before .put-signed .ensures)) in
-    printed s _ _ h (value (c .before .before .before .before .before .before .before .before .before .before .before .before .before .before .before .before .before)) (reads-as (whole-line s (λ r. numbers (nths 2 r) ++ bytes " " ++ signed (nth 2 r)) h) (follows _ _ y (c .before .before .put3 .ensures)))
+    printed s _ _ h (value-short (drop 2 s)) (value (c .before .before .before .before .before .before .before .before .before .before .before .before .before .before .before .before .before)) (reads-as (whole-line s (λ r. numbers (nths 2 r) ++ bytes " " ++ signed (nth 2 r)) h) (follows _ _ y (c .before .before .put3 .ensures)))
 
 same-length-3 : tie.Need-same-length-3
 same-length-3 c = search needs
@@ -162,7 +163,7 @@ returns-4 c =
     let h = c .before .before .before .before .before .before .before .before .before .before .before .before .before .before .before .before .before .before .before .before .before .if1 .left in
     let e : 12 + n - 12 ≡ n = omega arith in
     let x = follows _ _ (c .before .before .before .before .before .before .before .before .before .before .before .put-fields3 .ensures) (rw e at (c .before .before .before .before .before .before .put-numbers .ensures)) in
-    printed s _ _ h (data′ (c .before .before .before .before .before .before .before .before .before .before .before .before .before .before)) (reads-as (whole-line s (λ r. numbers (nths 3 r) ++ numbers (take n (drop 12 r))) h) (follows _ _ x (c .before .before .put4 .ensures)))
+    printed s _ _ h (data-short n s (λ i. (c .before .before .before .before .before .before .before .before .before .before .before .before .before .before .before .before .before .before .before .before .before .before .shared-slice-known .given i) .fits)) (data′ (c .before .before .before .before .before .before .before .before .before .before .before .before .before .before)) (reads-as (whole-line s (λ r. numbers (nths 3 r) ++ numbers (take n (drop 12 r))) h) (follows _ _ x (c .before .before .put4 .ensures)))
 
 returns-5 : tie.Need-returns-5
 returns-5 c = (rw (c .enum-told2 .given .1) at (shaped (c .before .before)), refl)
