@@ -228,14 +228,7 @@ pub fn listing_text(listing: &[u8], out: &mut [u8]) -> usize
 }
 
 // The text of a refusal in `out`, and its length.
-pub fn refusal_text(
-    number: u8,
-    from: u32,
-    to: u32,
-    first: u8,
-    second: u8,
-    out: &mut [u8],
-) -> usize
+pub fn refusal_text(number: u8, from: u32, to: u32, first: u8, second: u8, out: &mut [u8]) -> usize
     ensures { λ r. ⌜ Holds (refusalText number from to first second) (now (out .entry)) (now (out .exit)) r ⌝ }
 {
     let at = put_all(out, 0, b"REF");
@@ -250,17 +243,15 @@ pub fn refusal_text(
 // The text of what the full read answers, and its length, with `listing` lent to that read. It is whole where `text` has 6 bytes for each
 // of the listing's, and 109 more.
 pub fn answer_text(source: &[u8], listing: &mut [u8], text: &mut [u8]) -> usize
+    ensures within { λ r. ⌜ Counts r (now (text .exit)) ⌝ }
     ensures text { λ r. ⌜ Holds (answerText (fullCall operations (now (source .entry)) (length (now (listing .entry))))) (now (text .entry)) (now (text .exit)) r ⌝ }
     ensures whole { λ r. ⌜ (6 * length (now (listing .entry)) + 109 ≤ length (now (text .entry)) → r ≡ length (answerText (fullCall operations (now (source .entry)) (length (now (listing .entry)))))) ⌝ }
-    ensures within { λ r. ⌜ Counts r (now (text .exit)) ⌝ }
 {
     match full_read(source, listing) {
         FullAnswer::Written(n) => {
             let end = n as usize;
             listing_text(&listing[0..end], text)
         }
-        FullAnswer::Refused(r) => {
-            refusal_text(r.number, r.from, r.to, r.first, r.second, text)
-        }
+        FullAnswer::Refused(r) => { refusal_text(r.number, r.from, r.to, r.first, r.second, text) }
     }
 }

@@ -65,7 +65,8 @@ returns c =
     let e = written (now (a .source)) (now (a .listing)) l′ (sym (c .before .before .before .before .before .before .before .n .given .1) ∙ f .0) (f .1 .0) in
     let h = rw (d, e) at (c .before .before .listing-text .ensures .0) in
     let k = rw (d, e) at (c .before .before .listing-text .ensures .1) in
-    (h, said (6 * length (now (a .listing)) + 109) h (omega (arith, k, length-take n l′)))
+    let w = said (6 * length (now (a .listing)) + 109) h (omega (arith, k, length-take n l′)) in
+    (w .1, (h, w .0))
 
 same-length-3 : tie.Need-same-length-3
 same-length-3 c = search needs
@@ -79,7 +80,8 @@ returns-2 c =
     let r = c .before .before .before .before .before .r .given .0 .0 in
     let e = denied (now (a .source)) (now (a .listing)) (now (a .listing)) (sym (c .before .before .before .before .before .r .given .1) ∙ c .before .before .before .before .before .before .before .before .before .full-read .ensures .0) in
     let h = rw e at (c .before .before .refusal-text .ensures) in
-    (h, said (6 * length (now (a .listing)) + 109) h (rw (sym e) (omega (arith, refusal-most (r .number) (r .from) (r .to) (r .first) (r .second)))))
+    let w = said (6 * length (now (a .listing)) + 109) h (rw (sym e) (omega (arith, refusal-most (r .number) (r .from) (r .to) (r .first) (r .second)))) in
+    (w .1, (h, w .0))
 
 pub answer-text-spec : {M : Type 1} → statement M
 answer-text-spec =
