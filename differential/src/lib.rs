@@ -13,6 +13,7 @@ pub mod patches;
 #[cfg(original)]
 pub mod reads;
 pub mod recorded;
+pub mod samples;
 pub mod sources;
 #[cfg(original)]
 pub mod tokens;

@@ -1,6 +1,7 @@
 //! Recorded answers of the original, for where it is not there: a line for each source, its text escaped, a tab, the answer.
-use crate::answer::{shown, Answer};
+use crate::answer::{shown, Answer, Refusal};
 use crate::found::{Found, Named};
+use crate::samples::samples;
 use crate::sources::{self, Random};
 
 pub fn escaped(text: &[u8]) -> String {
@@ -43,6 +44,25 @@ pub const READS: &str = include_str!("../recorded/reads.txt");
 /// An answer on one line: its records, or its refusal, as the program `listing` prints them.
 pub fn read_of(answer: &Answer) -> String {
     shown(answer).trim_end().replace('\n', "; ")
+}
+
+/// The answer where a listing may take 65,536 bytes, as the program `listing` lends.
+pub fn in_room(answer: Answer) -> Answer {
+    answer.and_then(|listing| if listing.len() > 65536 { Err(Refusal::at(4, 0, 0)) } else { Ok(listing) })
+}
+
+/// What the program `replay` reads, a length of three bytes and a source each, and the answers that it must print: the samples of
+/// the rules, and the recorded reads.
+pub fn replayed() -> (Vec<u8>, String) {
+    let (mut stdin, mut stdout) = (Vec::new(), String::new());
+    let recorded = entries(READS).map(|(source, answer)| (source, answer.to_string()));
+    for (source, answer) in samples().into_iter().chain(recorded) {
+        stdin.extend_from_slice(&(source.len() as u32).to_le_bytes()[..3]);
+        stdin.extend_from_slice(&source);
+        stdout += &answer.replace("; ", "\n");
+        stdout.push('\n');
+    }
+    (stdin, stdout)
 }
 
 /// All tokens of a source, each `kind:length:value`, up to the end of file or a refused number.

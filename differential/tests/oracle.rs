@@ -2,41 +2,35 @@
 #![cfg(original)]
 use differential::answer::shown;
 use differential::reads::on_a_large_stack;
-use differential::{limits, original, patches, recorded, sources, words};
+use differential::recorded::in_room;
+use differential::{limits, original, patches, recorded, samples, sources, words};
 
 #[test]
 fn samples_of_the_rules() {
+    for (source, expected) in samples::samples() {
+        assert_eq!(recorded::read_of(&in_room(limits::read(&source))), expected, "{}", recorded::escaped(&source));
+    }
     for (source, expected) in [
-        ("mov ax,[bx+4]", "ST 0;OR 4 6 8;VC 11 12 4;PF 10 12 0;OX 7 13 7 1 0 0;LI 0 13 0 2 4 13;END 6"),
-        ("equ -1+2*3", "ST 0;VC 5 6 1;PF 4 6 1;VC 7 8 2;VC 9 10 3;IN 7 10 2;IN 4 10 0;LC 0 10;END 8"),
-        ("equ 8/4/2", "ST 0;VC 4 5 8;VC 6 7 4;IN 4 7 3;VC 8 9 2;IN 4 9 3;LC 0 9;END 7"),
-        ("equ $$", "ST 0;VS 4 5;LC 0 6;END 3"),
-        ("dw 70000", "ST 0;LD 0 8 2 112 17;END 2"),
-        ("db ,,", "REF 23 0 2 255 255"),
-        ("jmp 1:2", "ST 0;VC 4 5 1;VC 6 7 2;OF 4 7;LI 0 7 59 1 4 7;END 5"),
-        ("mov [ ax],bx", "REF 25 6 5 8 255"),
-        ("mov ax,[si+di]", "REF 33 8 13 255 255"),
-        ("dw 0abh", "REF 30 3 6 255 255"),
-        ("dw 10bh", "REF 15 6 7 255 255"),
-        ("equ *5", "REF 22 0 0 255 255"),
-        ("", "END 0"),
-        ("equ 0x7fffffff", "ST 0;VC 4 14 2147483647;LC 0 14;END 3"),
-        ("equ 0x80000000", "REF 31 4 14 255 255"),
-        ("equ 2147483648", "REF 21 4 5 255 255"),
-        ("k equ 2\n", "ST 0;LL 0 1;ST 2;VC 6 7 2;LC 2 7;END 5"),
         ("mov ax,[ es : ] ", "REF 32 7 15 255 255"),
         ("mov ax,[es:]0abh", "REF 30 12 15 255 255"),
         ("times 2\ntimes (3) ; open", "REF 34 8 13 255 255"),
         ("times times+5", "REF 34 0 5 255 255"),
-        ("a\ntimes (2) b", "ST 0;LL 0 1;ST 2;VC 9 10 2;LL 12 13;LT 0 0;END 6"),
+        ("a\ntimes (2) b", "ST 0; LL 0 1; ST 2; VC 9 10 2; LL 12 13; LT 0 0; END 6"),
         ("in [si+bx]", "REF 25 4 9 14 11"),
         ("in [es: ax]", "REF 25 8 7 8 255"),
-        ("in-1", "ST 0;VC 3 4 1;PF 2 4 1;OI 2 4;LI 0 4 4 1 2 4;END 5"),
-        ("db 1,,", "ST 0;LD 0 6 1 1;END 2"),
+        ("in-1", "ST 0; VC 3 4 1; PF 2 4 1; OI 2 4; LI 0 4 4 1 2 4; END 5"),
+        ("db 1,,", "ST 0; LD 0 6 1 1; END 2"),
     ] {
-        let said = shown(&original::read(source.as_bytes())).trim_end().replace('\n', ";");
-        assert_eq!(said, expected, "{source:?}");
+        assert_eq!(recorded::read_of(&original::read(source.as_bytes())), expected, "{source:?}");
     }
+}
+
+/// What the program `replay` is given and must print is what is recorded.
+#[test]
+fn replayed_answers() {
+    let (stdin, stdout) = recorded::replayed();
+    let file = |name| std::fs::read(format!("../crates/replay/{name}")).unwrap();
+    assert!(file("stdin") == stdin && file("stdout") == stdout.as_bytes(), "run `cargo run --release --bin replay`");
 }
 
 #[test]

@@ -1,0 +1,55 @@
+-- What is printed of a full read's answer: the bytes that it wrote decode to the records that it gives.
+use Prim.Native.Nat.{ℕ, _+_, _*_, _-_, _≤_, min}
+use mathlib.Core.Path.{_≡_, refl, sym, ap, _∙_}
+use mathlib.Core.Bool.{true≢false}
+use mathlib.Core.List.{List, _++_}
+use native.Mathlib.Omega.{arith}
+use lib.ListN.{length, length-append, length-take, length-drop, take, drop}
+use lib.Seq.{take-append-seam}
+use Rattle.io.specs.Counts.{Counts}
+use Rattle.names.specs.Table.{operations}
+use Rattle.rules.specs.Records.{Record, listing}
+use Rattle.rules.specs.Calls.{Result, gives, refuses, overwrite, leaves, fullCall, fullBuffer}
+use Rattle.rules.proofs.Calls.{Accepted, accepted-call}
+use Rattle.rules.proofs.Table.{proper}
+use Rattle.rules.proofs.Listing.{listing-decodes}
+use Rattle.parser.specs.declared.state.Refusal.{Refusal}
+use Rattle.reader.specs.declared.FullAnswer.{FullAnswer}
+use Rattle.reader.specs.declared.FullAnswer.the-variants.{Written, Refused}
+use Rattle.parser.specs.Views.{numbersOf}
+use Rattle.reader.specs.Calls.{fullAnswer}
+use Rattle.printing.specs.Text.{Holds}
+use Rattle.printing.specs.Lines.{textOf, refusalText, answerText, recordsIn}
+use Rattle.printing.proofs.Records.{text-of-listing}
+
+-- text that is not too long is whole, and lies within the buffer
+pub said : {bs l l′ : List ℕ} {r : ℕ} (most : ℕ) → Holds bs l l′ r → length bs ≤ most → (most ≤ length l → r ≡ length bs) × Counts r l′
+unfolding overwrite
+said {bs} {l} {l′} {r} most h k =
+    let t : List ℕ = take (length l) bs in
+    let n : length t ≡ min (length l) (length bs) = length-take (length l) bs in
+    let m : length l′ ≡ length t + length (drop (length t) l) = ap length (h .text) ∙ length-append t (drop (length t) l) in
+    let d : length (drop (length t) l) ≡ length l - length t = length-drop (length t) l in
+    let z : r ≡ length t = h .size in
+    ((λ room. omega arith), (omega arith, omega (arith, length-take r l′)))
+
+module _ (s l l′ : List ℕ) where
+  pub written : {n : ℕ} → Written n ≡ fullAnswer (fullCall operations s (length l)) → l′ ≡ fullBuffer operations s l → textOf (recordsIn 0 (take n l′)) ≡ answerText (fullCall operations s (length l))
+  unfolding fullBuffer answerText leaves overwrite
+  written {n} e f = go (fullCall operations s (length l)) refl e f
+    where
+      go : (x : Result (List Record)) → fullCall operations s (length l) ≡ x → Written n ≡ fullAnswer x → l′ ≡ leaves listing x l → textOf (recordsIn 0 (take n l′)) ≡ answerText x
+      go (gives w) h e f =
+          let k : n ≡ length (listing w) = cc in
+          let b : take n l′ ≡ listing w = rw (k, f) (take-append-seam (listing w) (drop (length (listing w)) l)) in
+          let a : Accepted operations s w = accepted-call operations s (length l) w h in
+          rw b (ap textOf (text-of-listing (listing w) w (listing-decodes operations proper s w (a .small) (a .short) (a .reads))))
+      go (refuses c) h e f = absurd (true≢false cc)
+
+  pub denied : {r : Refusal} → Refused r ≡ fullAnswer (fullCall operations s (length l)) → refusalText (r .number) (r .from) (r .to) (r .first) (r .second) ≡ answerText (fullCall operations s (length l))
+  unfolding answerText
+  denied {r} e = go (fullCall operations s (length l)) e
+    where
+      go : (x : Result (List Record)) → Refused r ≡ fullAnswer x → refusalText (r .number) (r .from) (r .to) (r .first) (r .second) ≡ answerText x
+      go (gives w) e = absurd (true≢false cc)
+      go (refuses c) e = let k : r ≡ numbersOf c = cc in rw k

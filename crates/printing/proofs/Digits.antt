@@ -1,0 +1,78 @@
+-- The digits of a number, the letters of a mark and the bytes of a field.
+use Prim.Native.Nat.{ℕ, zero, suc, _+_, _-_, _*_, _/_, _%_, _^_, _≤_, _<_}
+use mathlib.Core.Path.{_≡_, refl, sym, ap, ap₂, _∙_}
+use mathlib.Core.List.{List, [], _∷_, _++_}
+use native.Mathlib.Omega.{arith}
+use native.Mathlib.Numerals.{add-one}
+use native.Mathlib.Nat.{add-zero, zero-add, one-le-pow}
+use lib.Dec.{ltb}
+use lib.ListN.{length, take, drop, getD}
+use lib.Seq.{drop-cons}
+use borrow.Author.Tests.{lt-ltb, le-ltb}
+use Rattle.io.specs.Digits.{digits, Fewest}
+use Rattle.rules.specs.Decode.{value, nth}
+use Rattle.printing.specs.Text.{decimalIn, decimal}
+use Rattle.printing.specs.Lines.{nthsFrom, nths, lettersOf}
+
+few : (f k n : ℕ) → n < 10 ^ suc f → Fewest 10 1 n (suc k) → digits 10 (suc k) n ≡ decimalIn (suc f) n
+unfolding decimalIn
+few f zero n h w =
+    let s : n < 10 = w .1 in
+    let e : n % 10 ≡ n = omega arith in
+    rw (lt-ltb n 10 s, e, lt-ltb n 10 s)
+few zero (suc k) n h w =
+    let d : suc (suc k) - 1 ≡ suc k = omega arith in
+    let p : 10 ^ suc k ≡ 10 * 10 ^ k = omega arith in
+    let b : 10 ^ suc k ≤ n = rw d at (w .2 (omega arith)) in
+    let o : 1 ≤ 10 ^ k = one-le-pow k 10 (omega arith) in
+    absurd (omega arith)
+few (suc f) (suc k) n h w =
+    let p : 10 ^ suc k ≡ 10 * 10 ^ k = omega arith in
+    let q : 10 ^ suc (suc k) ≡ 10 * 10 ^ suc k = omega arith in
+    let r : 10 ^ suc (suc f) ≡ 10 * 10 ^ suc f = omega arith in
+    let d : suc (suc k) - 1 ≡ suc k = omega arith in
+    let d′ : suc k - 1 ≡ k = omega arith in
+    let a : n < 10 ^ suc (suc k) = w .1 in
+    let b : 10 ^ suc k ≤ n = rw d at (w .2 (omega arith)) in
+    let o : 1 ≤ 10 ^ k = one-le-pow k 10 (omega arith) in
+    let t : 10 ≤ n = omega arith in
+    let m : n % 10 < 10 = omega arith in
+    let again : digits 10 (suc k) (n / 10) ≡ decimalIn (suc f) (n / 10) = few f k (n / 10) (omega arith) (omega arith, omega arith, λ _. rw d′ (omega arith)) in
+    rw (le-ltb n 10 t, lt-ltb (n % 10) 10 m, again)
+
+-- at most 20 digits, and the fewest, are those of the definition
+pub fewest : (k n : ℕ) → n < 10 ^ 20 → Fewest 10 1 n k → digits 10 k n ≡ decimal n
+unfolding decimal
+fewest zero n h w = absurd (omega arith)
+fewest (suc k) n h w = few 19 k n h w
+
+pub letters : (a b : ℕ) → b < 256 → lettersOf (256 * a + b) ≡ a ∷ b ∷ []
+letters a b h =
+    let d : (256 * a + b) / 256 ≡ a = omega arith in
+    let m : (256 * a + b) % 256 ≡ b = omega arith in
+    rw (d, m)
+
+four : (s : List ℕ) (at : ℕ) → at + 4 ≤ length s
+    → value (take 4 (drop at s)) ≡ getD s at 0 + 256 * (getD s (at + 1) 0 + 256 * (getD s (at + 2) 0 + 256 * getD s (at + 3) 0))
+unfolding value
+four s at h =
+    let e₁ : at + 1 ≡ suc at = omega arith in
+    let e₂ : at + 2 ≡ suc (suc at) = omega arith in
+    let e₃ : at + 3 ≡ suc (suc (suc at)) = omega arith in
+    rw (e₁, e₂, e₃, drop-cons s at 0 (omega arith), drop-cons s (suc at) 0 (omega arith), drop-cons s (suc (suc at)) 0 (omega arith), drop-cons s (suc (suc (suc at))) 0 (omega arith), add-zero)
+
+pub field-at : (s : List ℕ) (i : ℕ) → 4 * i + 4 ≤ length s
+    → getD s (4 * i) 0 + 256 * (getD s (4 * i + 1) 0 + 256 * (getD s (4 * i + 2) 0 + 256 * getD s (4 * i + 3) 0)) ≡ nth i s
+unfolding nth
+field-at s i h = sym (four s (4 * i) h)
+
+nths-snoc : (i n : ℕ) (s : List ℕ) → nthsFrom i (suc n) s ≡ nthsFrom i n s ++ (nth (i + n) s ∷ [])
+unfolding nthsFrom
+nths-snoc i zero s = rw (add-zero i)
+nths-snoc i (suc n) s =
+    let e : suc i + n ≡ i + suc n = omega arith in
+    ap (λ (l : List ℕ). nth i s ∷ l) (nths-snoc (suc i) n s ∙ ap (λ (k : ℕ). nthsFrom (suc i) n s ++ (nth k s ∷ [])) e)
+
+-- one field more
+pub nths-more : (n : ℕ) (s : List ℕ) → nths (n + 1) s ≡ nths n s ++ (nth n s ∷ [])
+nths-more n s = rw add-one (nths-snoc 0 n s ∙ ap (λ (k : ℕ). nths n s ++ (nth k s ∷ [])) (zero-add n))

@@ -1,0 +1,257 @@
+// What the program `listing` prints: a listing's records as lines, or a refusal.
+mod text;
+
+use reader::FullAnswer;
+use reader::full_read;
+use text::put;
+use text::put_all;
+use text::put_number;
+use text::put_numbers;
+use text::put_signed;
+ghost use mathlib.Core.Path.{_≡_};
+ghost use mathlib.Core.List.{[], _∷_, _++_};
+ghost use Prim.Native.Nat.{_+_, _*_, _≤_, _<_};
+ghost use lib.ListN.{length};
+ghost use Rattle.io.specs.Counts.{Counts};
+ghost use Rattle.names.specs.Table.{operations};
+ghost use Rattle.rules.specs.Calls.{fullCall};
+ghost use Rattle.rules.specs.Decode.{nth};
+ghost use Rattle.printing.specs.Text.{numbers, Wrote, Holds};
+ghost use Rattle.printing.specs.Lines.{nths, lettersOf, fieldsIn, Shaped, Prints, line, textOf, refusalText, answerText, recordsIn};
+
+// The marks that records open with: two letters as a number.
+const ST: u32 = 0x5354;
+
+const VC: u32 = 0x5643;
+
+const VL: u32 = 0x564c;
+
+const VI: u32 = 0x5649;
+
+const VS: u32 = 0x5653;
+
+const PF: u32 = 0x5046;
+
+const IN: u32 = 0x494e;
+
+const OR: u32 = 0x4f52;
+
+const OS: u32 = 0x4f53;
+
+const OI: u32 = 0x4f49;
+
+const OF: u32 = 0x4f46;
+
+const OD: u32 = 0x4f44;
+
+const OX: u32 = 0x4f58;
+
+const LL: u32 = 0x4c4c;
+
+const LI: u32 = 0x4c49;
+
+const LD: u32 = 0x4c44;
+
+const LC: u32 = 0x4c43;
+
+const LT: u32 = 0x4c54;
+
+// How a record is printed: so many fields; VC, whose value is signed; LD with so many bytes.
+enum Shape {
+    Fields(usize),
+    Value,
+    Data(usize),
+    Nothing,
+}
+
+// A record's length, and the place behind its line.
+enum Line {
+    Record(usize, usize),
+    Nothing,
+}
+
+// Two letters as a mark.
+fn mark_of(a: u8, b: u8) -> u32
+    ensures { λ r. ⌜ lettersOf r ≡ a ∷ b ∷ [] ⌝ }
+{
+    256 * (a as u32) + b as u32
+}
+
+// Four bytes as a number, low first.
+fn joined(a: u8, b: u8, c: u8, d: u8) -> u32
+    ensures { λ r. ⌜ r ≡ a + 256 * (b + 256 * (c + 256 * d)) ⌝ }
+{
+    a as u32 + 256 * (b as u32 + 256 * (c as u32 + 256 * (d as u32)))
+}
+
+// The i-th field behind a mark.
+fn field(s: &[u8], i: usize) -> u32
+    requires { ⌜ 4 * i + 4 ≤ length (now s) ⌝ }
+    ensures { λ r. ⌜ r ≡ nth i (now (s .entry)) ⌝ }
+{
+    let at = 4 * i;
+    joined(s[at], s[at + 1], s[at + 2], s[at + 3])
+}
+
+fn fields(s: &[u8], n: usize) -> Shape
+    requires { ⌜ n < 7 ⌝ }
+    ensures { λ r. ⌜ r ≡ fieldsIn n (now (s .entry)) ⌝ }
+{
+    if s.len() < 4 * n {
+        return Shape::Nothing;
+    }
+    Shape::Fields(n)
+}
+
+fn shape_of(mark: u32, s: &[u8]) -> Shape
+    ensures { λ r. ⌜ Shaped (lettersOf mark) (now (s .entry)) r ⌝ }
+{
+    match mark {
+        ST => fields(s, 1),
+        VC => {
+            if s.len() < 12 {
+                return Shape::Nothing;
+            }
+            Shape::Value
+        }
+        VL => fields(s, 2),
+        VI => fields(s, 2),
+        VS => fields(s, 2),
+        PF => fields(s, 3),
+        IN => fields(s, 3),
+        OR => fields(s, 3),
+        OS => fields(s, 3),
+        OI => fields(s, 2),
+        OF => fields(s, 2),
+        OD => fields(s, 4),
+        OX => fields(s, 6),
+        LL => fields(s, 2),
+        LI => fields(s, 6),
+        LD => {
+            if s.len() < 12 {
+                return Shape::Nothing;
+            }
+            let n = field(s, 2) as usize;
+            if s.len() - 12 < n {
+                return Shape::Nothing;
+            }
+            Shape::Data(n)
+        }
+        LC => fields(s, 2),
+        LT => {
+            if s.len() < 8 {
+                return Shape::Nothing;
+            }
+            if field(s, 0) != 0 {
+                return Shape::Nothing;
+            }
+            if field(s, 1) != 0 {
+                return Shape::Nothing;
+            }
+            Shape::Fields(2)
+        }
+        _ => Shape::Nothing,
+    }
+}
+
+// The mark and the first n fields.
+fn put_fields(out: &mut [u8], at: usize, a: u8, b: u8, s: &[u8], n: usize) -> usize
+    requires { ⌜ 4 * n ≤ length (now s) ⌝ }
+    ensures { λ r. ⌜ Wrote at (a ∷ b ∷ numbers (nths n (now (s .entry)))) (now (out .entry)) (now (out .exit)) r ⌝ }
+{
+    let mut to = put(out, at, a);
+    to = put(out, to, b);
+    let mut i = 0;
+    while i < n {
+        to = put_number(out, to, field(s, i) as u64);
+        i += 1;
+    }
+    to
+}
+
+// The line of the record at the head of s.
+fn put_record(out: &mut [u8], at: usize, s: &[u8]) -> Line
+    ensures { λ r. ⌜ Prints (now (s .entry)) at (now (out .entry)) (now (out .exit)) r ⌝ }
+{
+    if s.len() < 2 {
+        return Line::Nothing;
+    }
+    let a = s[0];
+    let b = s[1];
+    let rest = &s[2..];
+    match shape_of(mark_of(a, b), rest) {
+        Shape::Fields(n) => {
+            let to = put_fields(out, at, a, b, rest, n);
+            Line::Record(2 + 4 * n, put(out, to, b'\n'))
+        }
+        Shape::Value => {
+            let to = put_fields(out, at, a, b, rest, 2);
+            let to = put(out, to, b' ');
+            let to = put_signed(out, to, field(rest, 2));
+            Line::Record(14, put(out, to, b'\n'))
+        }
+        Shape::Data(n) => {
+            let to = put_fields(out, at, a, b, rest, 3);
+            let end = 12 + n;
+            let to = put_numbers(out, to, &rest[12..end]);
+            Line::Record(2 + end, put(out, to, b'\n'))
+        }
+        Shape::Nothing => Line::Nothing,
+    }
+}
+
+fn put_end(out: &mut [u8], at: usize, count: u64) -> usize
+    ensures { λ r. ⌜ Wrote at (line "END" (count ∷ [])) (now (out .entry)) (now (out .exit)) r ⌝ }
+{
+    let to = put_all(out, at, b"END");
+    let to = put_number(out, to, count);
+    put(out, to, b'\n')
+}
+
+// The text of a listing in `out`, and its length: a line for each record that the bytes begin with, then `END` and their count.
+pub fn listing_text(listing: &[u8], out: &mut [u8]) -> usize
+    ensures { λ r. ⌜ Holds (textOf (recordsIn 0 (now (listing .entry)))) (now (out .entry)) (now (out .exit)) r ⌝ }
+    ensures { λ _. ⌜ length (textOf (recordsIn 0 (now (listing .entry)))) ≤ 6 * length (now (listing .entry)) + 25 ⌝ }
+{
+    let mut at = 0;
+    let mut to = 0;
+    let mut count: u64 = 0;
+    while at < listing.len() {
+        let Line::Record(size, behind) = put_record(out, to, &listing[at..]) else {
+            return put_end(out, to, count);
+        };
+        at += size;
+        to = behind;
+        count += 1;
+    }
+    put_end(out, to, count)
+}
+
+// The text of a refusal in `out`, and its length.
+pub fn refusal_text(number: u8, from: u32, to: u32, first: u8, second: u8, out: &mut [u8]) -> usize
+    ensures { λ r. ⌜ Holds (refusalText number from to first second) (now (out .entry)) (now (out .exit)) r ⌝ }
+{
+    let at = put_all(out, 0, b"REF");
+    let at = put_number(out, at, number as u64);
+    let at = put_number(out, at, from as u64);
+    let at = put_number(out, at, to as u64);
+    let at = put_number(out, at, first as u64);
+    let at = put_number(out, at, second as u64);
+    put(out, at, b'\n')
+}
+
+// The text of what the full read answers, and its length, with `listing` lent to that read. It is whole where `text` has 6 bytes for each
+// of the listing's, and 109 more.
+pub fn answer_text(source: &[u8], listing: &mut [u8], text: &mut [u8]) -> usize
+    ensures within { λ r. ⌜ Counts r (now (text .exit)) ⌝ }
+    ensures text { λ r. ⌜ Holds (answerText (fullCall operations (now (source .entry)) (length (now (listing .entry))))) (now (text .entry)) (now (text .exit)) r ⌝ }
+    ensures whole { λ r. ⌜ (6 * length (now (listing .entry)) + 109 ≤ length (now (text .entry)) → r ≡ length (answerText (fullCall operations (now (source .entry)) (length (now (listing .entry)))))) ⌝ }
+{
+    match full_read(source, listing) {
+        FullAnswer::Written(n) => {
+            let end = n as usize;
+            listing_text(&listing[0..end], text)
+        }
+        FullAnswer::Refused(r) => { refusal_text(r.number, r.from, r.to, r.first, r.second, text) }
+    }
+}
