@@ -16,5 +16,6 @@ pub mod recorded;
 pub mod sources;
 #[cfg(original)]
 pub mod tokens;
+pub mod values;
 #[cfg(original)]
 pub mod words;
