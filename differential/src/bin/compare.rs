@@ -54,6 +54,11 @@ fn with_original(long: bool) {
         "tokens: {} sources, {} tokens, {larger_digit} refused with 30, {too_large} with 31: all as the original's",
         compare.sources, compare.tokens
     );
+    let (calls, met) = tokens::calls(ours::token_read);
+    for number in [1, 2, 30, 31, 42] {
+        assert!(met[number] > 10, "refusal {number} is met {} times only", met[number]);
+    }
+    println!("token reads: {calls} calls, at and beyond the end, sources that are too long or not ASCII: all as expected");
     let mut compare = words::Compare::new(ours::named);
     compare.all(if long { 4 } else { 3 });
     assert!(compare.words > 300_000 && compare.named > 4000, "too little was compared");
