@@ -17,5 +17,6 @@ pub mod samples;
 pub mod sources;
 #[cfg(original)]
 pub mod tokens;
+pub mod values;
 #[cfg(original)]
 pub mod words;

@@ -1,4 +1,5 @@
-//! The proved library, through the functions that it exports.
+//! The proved library, through the functions that it exports (`include/laqhoncu.h`), as safe functions: slices in, an enum out.
+use crate::answer::Refusal;
 use crate::found::{Found, Named, NONE};
 
 #[repr(C)]
@@ -8,12 +9,99 @@ struct TokenFound {
     end: usize,
 }
 
+#[repr(C)]
+struct Numbers {
+    number: u8,
+    from: u32,
+    to: u32,
+    first: u8,
+    second: u8,
+}
+
+#[repr(C)]
+struct FullReading {
+    refusal: Numbers,
+    length: u32,
+}
+
+#[repr(C)]
+struct StatementReading {
+    refusal: Numbers,
+    found: u8,
+    length: u32,
+    ahead: u32,
+}
+
+#[repr(C)]
+struct TokenReading {
+    refusal: Numbers,
+    token: TokenFound,
+}
+
+#[repr(C)]
+struct Valuation {
+    refusal: Numbers,
+    value: i32,
+}
+
 extern "C" {
     // A slice of Rattle's is a pointer and a length.
     fn laqhoncu_token(source: *const u8, length: usize, place: usize) -> TokenFound;
     fn laqhoncu_operation(word: *const u8, length: usize) -> u8;
     fn laqhoncu_name(word: *const u8, length: usize) -> u16;
     fn laqhoncu_directive(word: *const u8, length: usize) -> u8;
+    fn laqhoncu_full_read(source: *const u8, length: usize, out: *mut u8, room: usize) -> FullReading;
+    fn laqhoncu_statement_read(source: *const u8, length: usize, place: usize, out: *mut u8, room: usize) -> StatementReading;
+    fn laqhoncu_token_read(source: *const u8, length: usize, place: usize) -> TokenReading;
+    fn laqhoncu_evaluate(operator: u8, left: i32, right: i32) -> Valuation;
+}
+
+impl Numbers {
+    /// The refusal that these numbers say, if they say one. An accepted call has no span and no registers.
+    #[inline]
+    fn checked(self) -> Result<(), Refusal> {
+        let Numbers { number, from, to, first, second } = self;
+        if number != 0 {
+            return Err(Refusal { number, from: from as usize, to: to as usize, first, second });
+        }
+        assert_eq!((from, to, first, second), (0, 0, 255, 255));
+        Ok(())
+    }
+}
+
+/// The listing of a source, written from the buffer's first byte on: its length.
+#[inline]
+pub fn full_read(source: &[u8], out: &mut [u8]) -> Result<usize, Refusal> {
+    let said = unsafe { laqhoncu_full_read(source.as_ptr(), source.len(), out.as_mut_ptr(), out.len()) };
+    said.refusal.checked().map(|()| said.length as usize)
+}
+
+/// The statement at a place, written from the buffer's first byte on: its length and the place of the token ahead; None where
+/// no statement is left.
+#[inline]
+pub fn statement_read(source: &[u8], place: usize, out: &mut [u8]) -> Result<Option<(usize, usize)>, Refusal> {
+    let said = unsafe { laqhoncu_statement_read(source.as_ptr(), source.len(), place, out.as_mut_ptr(), out.len()) };
+    said.refusal.checked()?;
+    match (said.found, said.length, said.ahead) {
+        (0, 0, 0) => Ok(None),
+        (1, length, ahead) => Ok(Some((length as usize, ahead as usize))),
+        other => panic!("no such answer: {other:?}"),
+    }
+}
+
+/// The token at a place of a source that is one to read (42, 1 and 2).
+#[inline]
+pub fn token_read(source: &[u8], place: usize) -> Result<Found, Refusal> {
+    let said = unsafe { laqhoncu_token_read(source.as_ptr(), source.len(), place) };
+    said.refusal.checked()?;
+    Ok(Found { kind: said.token.kind, length: said.token.end - place, value: said.token.value as u32 })
+}
+
+/// The operator of a number (0 to 3) on two numbers.
+#[inline]
+pub fn evaluate(operator: u8, left: i32, right: i32) -> Result<i32, Refusal> {
+    let said = unsafe { laqhoncu_evaluate(operator, left, right) };
+    said.refusal.checked().map(|()| said.value)
 }
 
 /// The token at a place, as `Cursor::next_token` reads it.

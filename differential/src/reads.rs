@@ -23,7 +23,20 @@ pub struct Compare<F> {
     pub refusals: [u64; 64],
 }
 
-const UNTOUCHED: u8 = 0xA5;
+/// What a lent byte holds before the call: another value from byte to byte, so that no write of one value goes unseen.
+fn untouched(i: usize) -> u8 {
+    (i as u8).wrapping_mul(29) ^ 0xA5
+}
+
+fn fill(buffer: &mut Vec<u8>, room: usize) {
+    buffer.clear();
+    buffer.extend((0..room).map(untouched));
+}
+
+/// Whether the bytes behind the first `written` are as they were.
+fn left(buffer: &[u8], written: usize) -> bool {
+    buffer.iter().enumerate().skip(written).all(|(i, b)| *b == untouched(i))
+}
 
 impl<F: FullRead> Compare<F> {
     pub fn new(ours: F) -> Self {
@@ -55,15 +68,14 @@ impl<F: FullRead> Compare<F> {
     }
 
     fn with_room(&mut self, source: &[u8], expected: &Answer, room: usize) {
-        self.buffer.clear();
-        self.buffer.resize(room, UNTOUCHED);
+        fill(&mut self.buffer, room);
         let said: Answer = (self.ours)(source, &mut self.buffer).map(|length| self.buffer[..length].to_vec());
         if said != *expected {
             let text = String::from_utf8_lossy(source);
             panic!("{text:?}\nlent {room} bytes\nexpected\n{}said\n{}", shown(expected), shown(&said));
         }
         let written = said.map_or(0, |listing| listing.len());
-        assert!(self.buffer[written..].iter().all(|b| *b == UNTOUCHED), "wrote beyond its result: {source:?}");
+        assert!(left(&self.buffer, written), "wrote beyond its result: {source:?}");
     }
 
     /// Every source of the usual run. `scale` 1 takes some seconds.
@@ -105,13 +117,14 @@ impl<F: FnMut(&[u8], usize, &mut [u8]) -> StatementAnswer> CompareStatements<F> 
     }
 
     fn with_room(&mut self, source: &[u8], place: usize, expected: &Result<Option<(Vec<u8>, usize)>, Refusal>, room: usize) {
-        let mut buffer = vec![UNTOUCHED; room];
+        let mut buffer = Vec::new();
+        fill(&mut buffer, room);
         let answer = (self.ours)(source, place, &mut buffer);
         let said = answer.map(|read| read.map(|(length, ahead)| (buffer[..length].to_vec(), ahead)));
         let text = String::from_utf8_lossy(source);
         assert!(said == *expected, "{text:?} at {place}\nlent {room} bytes\nexpected {expected:?}\nsaid {said:?}");
         let written = said.ok().flatten().map_or(0, |(listing, _)| listing.len());
-        assert!(buffer[written..].iter().all(|b| *b == UNTOUCHED), "wrote beyond its result: {text:?} at {place}");
+        assert!(left(&buffer, written), "wrote beyond its result: {text:?} at {place}");
     }
 
     /// Short sources at every place and one beyond, longer ones at a few.

@@ -1,4 +1,5 @@
 //! Compares a token read with the original's `Cursor::next_token`.
+use crate::answer::Refusal;
 use crate::found::Found;
 use crate::original;
 use crate::sources::{self, Random};
@@ -92,6 +93,42 @@ impl<F: TokenRead> Compare<F> {
             self.source(&source);
         }
     }
+}
+
+/// What the token read at a place answers: 42, 1 and 2 come before the token, and a refused number is a refusal.
+pub fn call(source: &[u8], place: usize) -> Result<Found, Refusal> {
+    if place > source.len() {
+        return Err(Refusal::at(42, 0, 0));
+    }
+    match original::token_at(original::lent(source)?, place) {
+        Found { kind: kind @ (30 | 31), length, .. } => Err(Refusal::at(kind, place, place + length)),
+        found => Ok(found),
+    }
+}
+
+/// Compares the token read at places of a source, beyond its end too. Gives how many calls there were, and how often each refusal.
+pub fn calls(mut ours: impl FnMut(&[u8], usize) -> Result<Found, Refusal>) -> (u64, [u64; 64]) {
+    let (mut count, mut met, mut turn) = (0, [0; 64], 0);
+    let mut at = |source: &[u8], place: usize| {
+        let (expected, said) = (call(source, place), ours(source, place));
+        let text = String::from_utf8_lossy(source);
+        assert!(said == expected, "{text:?} at {place}\nexpected {expected:?}\nsaid     {said:?}");
+        count += 1;
+        if let Err(refusal) = expected {
+            met[refusal.number as usize] += 1;
+        }
+    };
+    sources::all(1, &mut |source| {
+        turn += 1;
+        if source.len() > 4096 {
+            let end = source.len();
+            [0, 1, end / 2, end - 1, end, end + 1, usize::MAX].into_iter().for_each(|place| at(source, place));
+        } else if turn % 16 == 0 && source.len() < 64 {
+            (0..source.len() + 3).for_each(|place| at(source, place));
+            at(source, usize::MAX);
+        }
+    });
+    (count, met)
 }
 
 fn repeated(unit: &str, length: usize) -> Vec<u8> {

@@ -8,14 +8,26 @@ use lexer::Token;
 use names::Directive;
 use names::Found;
 use names::Name;
+use parser::expressions::Evaluated;
+use parser::expressions::Operator;
+use parser::state::Refusal;
+use reader::FullAnswer;
+use reader::StatementAnswer;
+use reader::TokenAnswer;
 ghost use mathlib.Core.Path.{_≡_};
-ghost use lib.ListN.{drop};
+ghost use lib.ListN.{length, drop};
 ghost use Rattle.lexer.specs.Tokens.{tokenAt, faultNumber};
 ghost use Rattle.lexer.specs.Scanned.{nextOf, character};
 ghost use Rattle.names.specs.Table.{operations};
 ghost use Rattle.names.specs.Names.{operationNamed, foundOf, nameOf, directiveOf};
+ghost use Rattle.rules.specs.Calls as rules;
+ghost use Rattle.rules.specs.Evaluate.{evaluate};
+ghost use Rattle.parser.specs.Operators.{operatorNumber, resultOf};
+ghost use Rattle.reader.specs.Calls.{tokenAnswer, statementAnswer, fullAnswer};
 ghost use Rattle.exports.specs.Found as spec;
 ghost use Rattle.exports.specs.Found.{literalFound, tokenFound, nextFound, operationByte, nameNumber, directiveByte};
+ghost use Rattle.exports.specs.Readings as readings;
+ghost use Rattle.exports.specs.Readings.{fullReading, statementReading, tokenReading, valuation, valued};
 
 // A token as numbers: its kind as in `lexer::Scanned`, a number's value or an invalid token's byte, and the place behind it.
 #[repr(C)]
@@ -178,4 +190,205 @@ pub extern "C" fn laqhoncu_directive(word: &[u8]) -> u8
 {
     let d = names::directive_of(word);
     directive_byte(d)
+}
+
+// A refusal as document 01 numbers it; number 0 is none. A register that is not there is 255.
+#[repr(C)]
+pub struct Numbers {
+    pub number: u8,
+    pub from: u32,
+    pub to: u32,
+    pub first: u8,
+    pub second: u8,
+}
+
+// Number 0, and how many bytes were written; or the refusal, and 0.
+#[repr(C)]
+pub struct FullReading {
+    pub refusal: Numbers,
+    pub length: u32,
+}
+
+// The same, with the place of the token ahead. `found` is 1 where a statement was read, and else 0.
+#[repr(C)]
+pub struct StatementReading {
+    pub refusal: Numbers,
+    pub found: u8,
+    pub length: u32,
+    pub ahead: u32,
+}
+
+// Number 0 and the token; or the refusal, and an end of file at 0.
+#[repr(C)]
+pub struct TokenReading {
+    pub refusal: Numbers,
+    pub token: TokenFound,
+}
+
+// Number 0 and the value; or the refusal, and 0.
+#[repr(C)]
+pub struct Valuation {
+    pub refusal: Numbers,
+    pub value: i32,
+}
+
+fn numbered(number: u8) -> Numbers
+    ensures { λ r. ⌜ r ≡ readings.numbered number ⌝ }
+{
+    Numbers {
+        number: number,
+        from: 0,
+        to: 0,
+        first: 255,
+        second: 255,
+    }
+}
+
+fn numbers_of(r: Refusal) -> Numbers
+    ensures { λ n. ⌜ n ≡ readings.numbers r ⌝ }
+{
+    Numbers {
+        number: r.number,
+        from: r.from,
+        to: r.to,
+        first: r.first,
+        second: r.second,
+    }
+}
+
+fn full_reading(a: FullAnswer) -> FullReading
+    ensures { λ r. ⌜ r ≡ fullReading a ⌝ }
+{
+    match a {
+        FullAnswer::Written(n) => FullReading {
+            refusal: numbered(0),
+            length: n,
+        },
+        FullAnswer::Refused(r) => FullReading {
+            refusal: numbers_of(r),
+            length: 0,
+        },
+    }
+}
+
+// The listing of a source, written into `out` if there is room for all of it.
+#[no_mangle]
+pub extern "C" fn laqhoncu_full_read(source: &[u8], out: &mut [u8]) -> FullReading
+    ensures answer { λ r. ⌜ r ≡ fullReading (fullAnswer (rules.fullCall operations (now (source .entry)) (length (now (out .entry))))) ⌝ }
+    ensures buffer { λ _. ⌜ now (out .exit) ≡ rules.fullBuffer operations (now (source .entry)) (now (out .entry)) ⌝ }
+{
+    let a = reader::full_read(source, out);
+    full_reading(a)
+}
+
+fn statement_reading(a: StatementAnswer) -> StatementReading
+    ensures { λ r. ⌜ r ≡ statementReading a ⌝ }
+{
+    match a {
+        StatementAnswer::Written(n, p) => StatementReading {
+            refusal: numbered(0),
+            found: 1,
+            length: n,
+            ahead: p,
+        },
+        StatementAnswer::NoneLeft => StatementReading {
+            refusal: numbered(0),
+            found: 0,
+            length: 0,
+            ahead: 0,
+        },
+        StatementAnswer::Refused(r) => StatementReading {
+            refusal: numbers_of(r),
+            found: 0,
+            length: 0,
+            ahead: 0,
+        },
+    }
+}
+
+// The statement at a place, written into `out` if there is room for all of it.
+#[no_mangle]
+pub extern "C" fn laqhoncu_statement_read(
+    source: &[u8],
+    place: usize,
+    out: &mut [u8],
+) -> StatementReading
+    ensures answer { λ r. ⌜ r ≡ statementReading (statementAnswer (rules.statementCall operations (now (source .entry)) place (length (now (out .entry))))) ⌝ }
+    ensures buffer { λ _. ⌜ now (out .exit) ≡ rules.statementBuffer operations (now (source .entry)) place (now (out .entry)) ⌝ }
+{
+    let a = reader::statement_read(source, place, out);
+    statement_reading(a)
+}
+
+fn token_reading(a: TokenAnswer) -> TokenReading
+    ensures { λ r. ⌜ r ≡ tokenReading a ⌝ }
+{
+    match a {
+        TokenAnswer::Read(t, c) => TokenReading {
+            refusal: numbered(0),
+            token: token_at_end(t, c.pos),
+        },
+        TokenAnswer::Refused(r) => TokenReading {
+            refusal: numbers_of(r),
+            token: plain(lexer::END_OF_FILE, 0),
+        },
+    }
+}
+
+// The token at a place of a source, after 42, 1 and 2.
+#[no_mangle]
+pub extern "C" fn laqhoncu_token_read(source: &[u8], place: usize) -> TokenReading
+    ensures { λ r. ⌜ r ≡ tokenReading (tokenAnswer place (rules.tokenCall (now (source .entry)) place)) ⌝ }
+{
+    let a = reader::token_read(source, place);
+    token_reading(a)
+}
+
+fn valuation_of(e: Evaluated) -> Valuation
+    ensures { λ r. ⌜ r ≡ valued (resultOf e) ⌝ }
+{
+    match e {
+        Evaluated::Value(v) => Valuation {
+            refusal: numbered(0),
+            value: v,
+        },
+        Evaluated::Beyond => Valuation {
+            refusal: numbered(50),
+            value: 0,
+        },
+        Evaluated::ZeroDivisor => Valuation {
+            refusal: numbered(51),
+            value: 0,
+        },
+    }
+}
+
+fn evaluated(op: Operator, left: i32, right: i32) -> Valuation
+    ensures { λ r. ⌜ r ≡ valued (evaluate (operatorNumber op) left right) ⌝ }
+{
+    let e = op.evaluate(left, right);
+    valuation_of(e)
+}
+
+// The operator of a number (0 `+`, 1 `-`, 2 `*`, 3 `/`) on two numbers. Any other number is refused with 255.
+#[no_mangle]
+pub extern "C" fn laqhoncu_evaluate(operator: u8, left: i32, right: i32) -> Valuation
+    ensures { λ r. ⌜ r ≡ valuation operator left right ⌝ }
+{
+    if operator == 0 {
+        return evaluated(Operator::Add, left, right);
+    }
+    if operator == 1 {
+        return evaluated(Operator::Subtract, left, right);
+    }
+    if operator == 2 {
+        return evaluated(Operator::Multiply, left, right);
+    }
+    if operator == 3 {
+        return evaluated(Operator::Divide, left, right);
+    }
+    Valuation {
+        refusal: numbered(255),
+        value: 0,
+    }
 }

@@ -83,6 +83,66 @@ fn main() {
         }
         println!();
     }
+
+    println!("full reads, ours into a buffer of 18 times the source, the original's into its trees");
+    let mut buffer = vec![0; 18 * 65536];
+    for (title, make) in [("marker lines", sources::marker_lines as fn(usize) -> String), ("code lines", sources::code_lines)] {
+        for length in [1024, 8192, 65536] {
+            let text = make(length);
+            let turns = 65536 / length;
+            let (ours, original) = in_turn(rounds, full_reads(&text, turns, &mut buffer), || {
+                for _ in 0..turns {
+                    parse(&text);
+                }
+            });
+            let speed = |seconds: f64| (text.len() * turns) as f64 / seconds / 1e6;
+            println!(
+                "  {title}, {:5} bytes: ours {:6.1} MB/s (median {:6.1}), original {:6.1} MB/s (median {:6.1}), ratio {:.2}",
+                text.len(),
+                speed(ours.best),
+                speed(ours.median),
+                speed(original.best),
+                speed(original.median),
+                original.best / ours.best
+            );
+        }
+    }
+    println!("\ntime by length, marker lines");
+    for length in [1024, 2048, 4096, 8192, 16384, 32768, 65536] {
+        let text = sources::marker_lines(length);
+        let turns = 65536 / length;
+        let (ours, _) = in_turn(rounds, full_reads(&text, turns, &mut buffer), || {});
+        println!("  {:5} bytes: {:.2} ns a byte", text.len(), ours.best / (text.len() * turns) as f64 * 1e9);
+    }
+    println!("\ntime by depth of expressions, lines of `equ ((1))` up to 64 KiB");
+    for depth in [1, 2, 4, 8, 16, 31, 32] {
+        let (open, close) = ("(".repeat(depth - 1), ")".repeat(depth - 1));
+        let line = format!("equ {open}1{close}\n");
+        let text = line.repeat(65536 / line.len());
+        let (ours, original) = in_turn(rounds, full_reads(&text, 1, &mut buffer), || parse(&text));
+        let share = |seconds: f64| seconds / text.len() as f64 * 1e9;
+        println!("  depth {depth:2}: ours {:.2} ns a byte, original {:.2}", share(ours.best), share(original.best));
+    }
+}
+
+/// Reads a source so many times; it has to be accepted.
+#[cfg(all(library, original))]
+fn full_reads<'a>(text: &'a str, turns: usize, buffer: &'a mut [u8]) -> impl FnMut() + 'a {
+    move || {
+        for _ in 0..turns {
+            let length = differential::ours::full_read(std::hint::black_box(text.as_bytes()), buffer);
+            assert!(std::hint::black_box(length).is_ok());
+        }
+    }
+}
+
+/// The original's parse, line by line to the end.
+#[cfg(all(library, original))]
+fn parse(text: &str) {
+    let mut parser = mrc_compiler::parser::Parser::new(std::hint::black_box(text));
+    while let Some(line) = parser.parse_line().unwrap_or_else(|_| panic!("refused")) {
+        std::hint::black_box(line);
+    }
 }
 
 /// Looks every word up.
@@ -101,11 +161,11 @@ struct Time {
 
 /// Times both in seconds, one round of each in turn.
 #[cfg(all(library, original))]
-fn in_turn<A, B>(rounds: usize, a: impl Fn() -> A, b: impl Fn() -> B) -> (Time, Time) {
+fn in_turn<A, B>(rounds: usize, mut a: impl FnMut() -> A, mut b: impl FnMut() -> B) -> (Time, Time) {
     let (mut of_a, mut of_b) = (Vec::new(), Vec::new());
     for _ in 0..rounds {
-        of_a.push(timed(&a));
-        of_b.push(timed(&b));
+        of_a.push(timed(&mut a));
+        of_b.push(timed(&mut b));
     }
     let time = |mut list: Vec<f64>| {
         list.sort_by(f64::total_cmp);
@@ -115,7 +175,7 @@ fn in_turn<A, B>(rounds: usize, a: impl Fn() -> A, b: impl Fn() -> B) -> (Time, 
 }
 
 #[cfg(all(library, original))]
-fn timed<T>(f: impl Fn() -> T) -> f64 {
+fn timed<T>(mut f: impl FnMut() -> T) -> f64 {
     let begun = std::time::Instant::now();
     std::hint::black_box(f());
     begun.elapsed().as_secs_f64()

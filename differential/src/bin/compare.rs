@@ -6,7 +6,7 @@ fn main() {
 }
 
 #[cfg(library)]
-use differential::{ours, recorded};
+use differential::{ours, recorded, values};
 
 #[cfg(library)]
 fn main() {
@@ -24,14 +24,26 @@ fn main() {
         assert!(said == expected, "{:?}\nrecorded {expected}\nsaid     {said}", recorded::escaped(&word));
         words += 1;
     }
-    assert!(tokens > 1000 && words > 500, "the recorded lists are short");
-    println!("recorded answers: {tokens} sources and {words} words, all as recorded");
+    let (mut reads, mut buffer) = (0, Vec::new());
+    for (source, expected) in recorded::entries(recorded::READS) {
+        buffer.resize(18 * source.len(), 0);
+        let answer = ours::full_read(&source, &mut buffer).map(|length| buffer[..length].to_vec());
+        let said = recorded::read_of(&answer);
+        assert!(said == expected, "{:?}\nrecorded {expected}\nsaid     {said}", recorded::escaped(&source));
+        reads += 1;
+    }
+    assert!(tokens > 1000 && words > 500 && reads > 500, "the recorded lists are short");
+    println!("recorded answers: tokens of {tokens} sources, {words} words, {reads} full reads, all as recorded");
+    let (values, met) = values::all(if long { 10_000_000 } else { 500_000 }, ours::evaluate);
+    assert!(met.iter().all(|count| *count > 100), "too little was compared");
+    println!("evaluate: {values} calls, {} refused with 50, {} with 51: all as exact arithmetic says", met[0], met[1]);
     with_original(long);
     println!("compared in {:.1} s", begun.elapsed().as_secs_f64());
 }
 
 #[cfg(all(library, original))]
 fn with_original(long: bool) {
+    use differential::reads::{self, on_a_large_stack};
     use differential::{tokens, words};
 
     let mut compare = tokens::Compare::new(ours::token);
@@ -42,10 +54,40 @@ fn with_original(long: bool) {
         "tokens: {} sources, {} tokens, {larger_digit} refused with 30, {too_large} with 31: all as the original's",
         compare.sources, compare.tokens
     );
+    let (calls, met) = tokens::calls(ours::token_read);
+    for number in [1, 2, 30, 31, 42] {
+        assert!(met[number] > 10, "refusal {number} is met {} times only", met[number]);
+    }
+    println!("token reads: {calls} calls, at and beyond the end, sources that are too long or not ASCII: all as expected");
     let mut compare = words::Compare::new(ours::named);
     compare.all(if long { 4 } else { 3 });
     assert!(compare.words > 300_000 && compare.named > 4000, "too little was compared");
     println!("names: {} words, {} of them names: all as the original's", compare.words, compare.named);
+
+    let mut compare = reads::Compare::new(ours::full_read);
+    let compare = on_a_large_stack(move || {
+        compare.all(if long { 10 } else { 1 });
+        compare
+    });
+    let count = compare.count;
+    assert!(count.sources > if long { 5_000_000 } else { 300_000 } && count.accepted > 100_000, "too little was compared");
+    for number in [1, 2, 3, 5, 10, 11, 12, 13, 14, 15, 16, 17, 20, 21, 22, 23, 24, 25, 26, 30, 31, 32, 33, 34] {
+        assert!(compare.refusals[number] > 10, "refusal {number} is met {} times only", compare.refusals[number]);
+    }
+    println!(
+        "full reads: {} sources, {} accepted with {} bytes of listings, the others refused with each of 24 numbers: all as the original's",
+        count.sources, count.accepted, count.records_bytes
+    );
+    let mut compare = reads::CompareStatements::new(ours::statement_read);
+    let compare = on_a_large_stack(move || {
+        compare.all(if long { 10 } else { 1 });
+        compare
+    });
+    assert!(compare.reads > 300_000 && compare.written > 100_000 && compare.none_left > 1000, "too little was compared");
+    println!(
+        "statement reads: {} calls, {} statements, {} times none left: all as the original's",
+        compare.reads, compare.written, compare.none_left
+    );
 }
 
 #[cfg(all(library, not(original)))]

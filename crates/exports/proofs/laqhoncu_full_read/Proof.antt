@@ -1,0 +1,26 @@
+-- The call's contract, through the numbers of its answer; the buffer is as the call leaves it.
+use borrow.Author.Needs.{needs}
+use mathlib.Core.Path.{_≡_, refl, sym, ap, _∙_}
+use Rattle.exports.specs.Readings.{fullReading}
+use Rattle.exports.proofs.laqhoncu_full_read.Statement.{statement}
+use Rattle.exports.proofs.laqhoncu_full_read.Tie as tie
+use Rattle.exports.proofs.laqhoncu_full_read.Reads as reads
+use Rattle.exports.proofs.laqhoncu_full_read.Lts as lts
+use Rattle.exports.proofs.full_reading.Reads as full-reading-reads
+use Rattle.reader.proofs.full_read.Reads as full-read-reads
+
+full-read-requires : tie.Need-full-read-requires
+full-read-requires c κs = search needs
+
+full-reading-requires : tie.Need-full-reading-requires
+full-reading-requires c κs = search needs
+
+same-length : tie.Need-same-length
+same-length c = search needs
+
+returns : tie.Need-returns
+returns c = (c .full-reading .ensures ∙ ap fullReading (c .before .before .before .full-read .ensures .0), c .before .before .before .full-read .ensures .1 .0)
+
+pub laqhoncu-full-read-spec : {M : Type 1} → statement M
+laqhoncu-full-read-spec =
+    tie.close (tie.spec full-read-requires full-reading-requires same-length returns)

@@ -1,0 +1,68 @@
+-- The answers of the calls as the numbers that Rust and C take: document 01's number, span and registers of each case.
+use Prim.Native.Nat.{ℕ}
+use lib.Dec.{eqb}
+use lib.IntN.{ℤ, pos}
+use Rattle.lexer.specs.Text.{if_then_else_}
+use Rattle.lexer.specs.Scanned.{endOfFile}
+use Rattle.rules.specs.Calls.{Result, gives, refuses}
+use Rattle.rules.specs.Evaluate.{evaluate}
+use Rattle.parser.specs.declared.state.Refusal.{Refusal}
+use Rattle.parser.specs.Views.{numbersOf}
+use Rattle.reader.specs.declared.FullAnswer.{FullAnswer}
+use Rattle.reader.specs.declared.FullAnswer.the-variants as answer
+use Rattle.reader.specs.declared.StatementAnswer.{StatementAnswer}
+use Rattle.reader.specs.declared.StatementAnswer.the-variants as statement
+use Rattle.reader.specs.declared.TokenAnswer.{TokenAnswer}
+use Rattle.reader.specs.declared.TokenAnswer.the-variants as read
+use Rattle.exports.specs.declared.Numbers.{Numbers}
+use Rattle.exports.specs.declared.FullReading.{FullReading}
+use Rattle.exports.specs.declared.StatementReading.{StatementReading}
+use Rattle.exports.specs.declared.TokenFound.{TokenFound}
+use Rattle.exports.specs.declared.TokenReading.{TokenReading}
+use Rattle.exports.specs.declared.Valuation.{Valuation}
+use Rattle.exports.specs.Found.{plain, tokenFound}
+
+-- a number without a place; 0 is no refusal
+abbrev pub numbered : ℕ → Numbers
+numbered n = record { number = n; from = 0; to = 0; first = 255; second = 255 }
+
+abbrev pub numbers : Refusal → Numbers
+numbers r = record { number = r .number; from = r .from; to = r .to; first = r .first; second = r .second }
+
+abbrev pub full : Numbers → ℕ → FullReading
+full refusal length = record { refusal = refusal; length = length }
+
+abbrev pub fullReading : FullAnswer → FullReading
+fullReading (answer.Written n) = full (numbered 0) n
+fullReading (answer.Refused r) = full (numbers r) 0
+
+abbrev pub one : Numbers → ℕ → ℕ → ℕ → StatementReading
+one refusal found length ahead = record { refusal = refusal; found = found; length = length; ahead = ahead }
+
+abbrev pub statementReading : StatementAnswer → StatementReading
+statementReading (statement.Written n p) = one (numbered 0) 1 n p
+statementReading statement.NoneLeft = one (numbered 0) 0 0 0
+statementReading (statement.Refused r) = one (numbers r) 0 0 0
+
+abbrev pub token : Numbers → TokenFound → TokenReading
+token refusal t = record { refusal = refusal; token = t }
+
+abbrev pub tokenReading : TokenAnswer → TokenReading
+tokenReading (read.Read t c) = token (numbered 0) (tokenFound t (c .pos))
+tokenReading (read.Refused r) = token (numbers r) (plain endOfFile 0)
+
+abbrev pub value : Numbers → ℤ → Valuation
+value refusal v = record { refusal = refusal; value = v }
+
+abbrev pub valued : Result ℤ → Valuation
+valued (gives z) = value (numbered 0) z
+valued (refuses c) = value (numbers (numbersOf c)) (pos 0)
+
+-- The operator of a number on two numbers; a number that is no operator's is 255, which is none of document 01's.
+unfoldable pub valuation : ℕ → ℤ → ℤ → Valuation
+valuation op a b =
+    if eqb op 0 then (valued (evaluate 0 a b))
+    else if eqb op 1 then (valued (evaluate 1 a b))
+    else if eqb op 2 then (valued (evaluate 2 a b))
+    else if eqb op 3 then (valued (evaluate 3 a b))
+    else value (numbered 255) (pos 0)
