@@ -48,6 +48,7 @@ extern "C" {
     // A slice of Rattle's is a pointer and a length.
     fn laqhoncu_token(source: *const u8, length: usize, place: usize) -> TokenFound;
     fn laqhoncu_operation(word: *const u8, length: usize) -> u8;
+    fn laqhoncu_operations(rows: *const u8, length: usize, numbers: *mut u8, count: usize);
     fn laqhoncu_name(word: *const u8, length: usize) -> u16;
     fn laqhoncu_directive(word: *const u8, length: usize) -> u8;
     fn laqhoncu_full_read(source: *const u8, length: usize, out: *mut u8, room: usize) -> FullReading;
@@ -117,6 +118,23 @@ pub fn operation(word: &[u8]) -> u8 {
     unsafe { laqhoncu_operation(word.as_ptr(), word.len()) }
 }
 
+/// A row for `operations`: the length, and the word as far as it goes in seven bytes. A longer word has no operation.
+pub fn row(word: &[u8]) -> [u8; 8] {
+    let mut row = [0; 8];
+    if word.len() <= 7 {
+        row[0] = word.len() as u8;
+        row[1..1 + word.len()].copy_from_slice(word);
+    }
+    row
+}
+
+/// The numbers of the operations that rows name, each as `operation` gives it.
+#[inline]
+pub fn operations(rows: &[[u8; 8]], numbers: &mut [u8]) {
+    let rows = rows.as_flattened();
+    unsafe { laqhoncu_operations(rows.as_ptr(), rows.len(), numbers.as_mut_ptr(), numbers.len()) }
+}
+
 /// The register, segment or size that a word names, numbered as in `Named`.
 #[inline]
 pub fn name(word: &[u8]) -> u8 {
@@ -131,5 +149,8 @@ pub fn name(word: &[u8]) -> u8 {
 
 pub fn named(word: &[u8]) -> Named {
     let directive = unsafe { laqhoncu_directive(word.as_ptr(), word.len()) };
-    Named { operation: operation(word), name: name(word), directive }
+    let mut alone = [NONE; 2];
+    operations(&[row(word)], &mut alone);
+    assert_eq!(alone, [operation(word), NONE], "{}", word.escape_ascii());
+    Named { operation: alone[0], name: name(word), directive }
 }

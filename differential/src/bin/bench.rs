@@ -66,6 +66,10 @@ fn main() {
             || each(&words, |word| ours::operation(word.as_bytes())),
             || each(&words, Operation::from_str),
         );
+        let rows: Vec<[u8; 8]> = words.iter().map(|word| ours::row(word.as_bytes())).collect();
+        let mut numbers = vec![0; rows.len()];
+        let (ours_batch, _) = in_turn(rounds, || ours::operations(black_box(&rows), &mut numbers), || {});
+        assert!(words.iter().zip(&numbers).all(|(word, number)| ours::operation(word.as_bytes()) == *number));
         let (ours_name, original_name) = in_turn(
             rounds,
             || each(&words, |word| ours::name(word.as_bytes())),
@@ -73,6 +77,7 @@ fn main() {
         );
         println!("  names: {} words", words.len());
         for (who, time) in [
+            ("ours, operations of all words", ours_batch),
             ("ours, operation (makes the table)", ours_operation),
             ("original, operation", original_operation),
             ("ours, register, segment or size", ours_name),
