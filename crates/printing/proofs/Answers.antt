@@ -1,8 +1,8 @@
 -- What is printed of a full read's answer: the bytes that it wrote decode to the records that it gives.
-use Prim.Native.Nat.{ℕ, _+_, _*_, _-_, _≤_, min}
-use mathlib.Core.Path.{_≡_, refl, sym, ap, _∙_}
+use Prim.Native.Nat.{ℕ, _+_, _-_, _≤_, min}
+use mathlib.Core.Path.{_≡_, refl, ap, _∙_}
 use mathlib.Core.Bool.{true≢false}
-use mathlib.Core.List.{List, _++_}
+use mathlib.Core.List.{List}
 use native.Mathlib.Omega.{arith}
 use lib.ListN.{length, length-append, length-take, length-drop, take, drop}
 use lib.Seq.{take-append-seam}
@@ -14,7 +14,6 @@ use Rattle.rules.proofs.Calls.{Accepted, accepted-call}
 use Rattle.rules.proofs.Table.{proper}
 use Rattle.rules.proofs.Listing.{listing-decodes}
 use Rattle.parser.specs.declared.state.Refusal.{Refusal}
-use Rattle.reader.specs.declared.FullAnswer.{FullAnswer}
 use Rattle.reader.specs.declared.FullAnswer.the-variants.{Written, Refused}
 use Rattle.parser.specs.Views.{numbersOf}
 use Rattle.reader.specs.Calls.{fullAnswer}

@@ -1,18 +1,17 @@
 -- The digits of a number, the letters of a mark and the bytes of a field.
 use Prim.Native.Nat.{ℕ, zero, suc, _+_, _-_, _*_, _/_, _%_, _^_, _≤_, _<_}
-use mathlib.Core.Path.{_≡_, refl, sym, ap, ap₂, _∙_}
+use mathlib.Core.Path.{_≡_, sym, ap, _∙_}
 use mathlib.Core.List.{List, [], _∷_, _++_}
 use native.Mathlib.Omega.{arith}
 use native.Mathlib.Numerals.{add-one}
 use native.Mathlib.Nat.{add-zero, zero-add, one-le-pow}
-use lib.Dec.{ltb}
 use lib.ListN.{length, take, drop, getD}
 use lib.Seq.{drop-cons}
 use borrow.Author.Tests.{lt-ltb, le-ltb}
 use Rattle.io.specs.Digits.{digits, Fewest}
 use Rattle.rules.specs.Decode.{value, nth}
 use Rattle.printing.specs.Text.{decimalIn, decimal}
-use Rattle.printing.specs.Lines.{nthsFrom, nths, lettersOf}
+use Rattle.printing.specs.Shapes.{nthsFrom, nths, lettersOf}
 
 few : (f k n : ℕ) → n < 10 ^ suc f → Fewest 10 1 n (suc k) → digits 10 (suc k) n ≡ decimalIn (suc f) n
 unfolding decimalIn

@@ -1,19 +1,19 @@
 -- The records that bytes begin with, one after the other, and their lines.
-use Prim.Native.Nat.{ℕ, zero, suc, pred, _+_, _*_, _-_, _≤_, _<_}
+use Prim.Native.Nat.{ℕ, zero, suc, pred, _+_, _*_, _-_, _≤_}
 use mathlib.Core.Path.{_≡_, refl, sym, ap, _∙_}
 use mathlib.Core.Bool.{true≢false}
 use mathlib.Core.List.{List, [], _∷_, _++_, append-assoc, append-nil}
 use mathlib.Core.Option.{Option, none, some}
 use native.Mathlib.Omega.{arith}
-use native.Mathlib.Nat.{zero-add}
 use lib.ListN.{length, length-append, length-drop, take, drop}
 use lib.Seq.{drop-drop}
 use Rattle.lexer.specs.Text.{maybe}
 use Rattle.rules.specs.Records.{Record}
 use Rattle.rules.specs.Decode.{Sized, recordOf, also, recordsFrom, decode}
-use Rattle.printing.specs.Text.{Wrote, Holds}
-use Rattle.printing.specs.Lines.{line, lineOf, linesOf, textOf, recordsIn, Printed}
-use Rattle.printing.proofs.Writes.{nothing, follows, reads-as, wrote-length, holds}
+use Rattle.printing.specs.Text.{Wrote}
+use Rattle.printing.specs.Lines.{line, lineOf, linesOf, textOf, recordsIn}
+use Rattle.printing.specs.Shapes.{Printed}
+use Rattle.printing.proofs.Writes.{nothing, follows, reads-as}
 use Rattle.printing.proofs.Room.{end-most}
 use Rattle.printing.proofs.Shapes.{tail}
 

@@ -1,6 +1,6 @@
 -- How long text is: a number has at most 20 digits, and a byte at most 3.
 use Prim.Native.Nat.{ℕ, zero, suc, _+_, _*_, _-_, _/_, _%_, _≤_, _<_}
-use mathlib.Core.Path.{_≡_, refl, sym, ap, _∙_}
+use mathlib.Core.Path.{_≡_, refl, ap}
 use mathlib.Core.Bool.{Bool, true, false}
 use mathlib.Core.List.{List, [], _∷_, _++_}
 use native.Mathlib.Omega.{arith}
@@ -10,7 +10,8 @@ use borrow.Author.Tests.{lt-ltb}
 use Rattle.lexer.specs.Text.{if_then_else_, bytes}
 use Rattle.rules.specs.Decode.{nth}
 use Rattle.printing.specs.Text.{decimalIn, decimal, signed, numbers}
-use Rattle.printing.specs.Lines.{line, nthsFrom, nths, refusalText}
+use Rattle.printing.specs.Lines.{line, refusalText}
+use Rattle.printing.specs.Shapes.{nthsFrom, nths}
 
 one-more : (k m n : ℕ) → length (decimalIn k (n / 10)) ≤ m → length (decimalIn (suc k) n) ≤ suc m
 unfolding decimalIn

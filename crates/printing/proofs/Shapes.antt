@@ -1,8 +1,8 @@
 -- Which record stands behind a mark, and its line.
-use Prim.Native.Nat.{ℕ, suc, _+_, _-_, _*_, _/_, _%_, _≤_, _<_}
-use mathlib.Core.Path.{_≡_, refl, sym, ap, ap₂, _∙_}
+use Prim.Native.Nat.{ℕ, _+_, _-_, _*_, _/_, _%_, _≤_, _<_}
+use mathlib.Core.Path.{_≡_, refl, ap}
 use mathlib.Core.Bool.{Bool, true, false, _&&_}
-use mathlib.Core.List.{List, [], _∷_, _++_, append-assoc}
+use mathlib.Core.List.{List, [], _∷_, _++_}
 use mathlib.Core.Option.{Option, none, some}
 use native.Mathlib.Omega.{arith}
 use lib.Dec.{eqb, leb}
@@ -15,7 +15,8 @@ use Rattle.rules.specs.Decode.{Sized, nth, having, dataAt, recordOf}
 use Rattle.printing.specs.declared.Shape.{Shape}
 use Rattle.printing.specs.declared.Shape.the-variants as shape
 use Rattle.printing.specs.Text.{numbers, Wrote}
-use Rattle.printing.specs.Lines.{line, lineOf, nthsFrom, nths, lettersOf, Lined, Shaped, fieldsIn, Printed}
+use Rattle.printing.specs.Lines.{line, lineOf}
+use Rattle.printing.specs.Shapes.{nthsFrom, nths, lettersOf, Lined, Shaped, fieldsIn, Printed}
 use Rattle.printing.proofs.Writes.{numbers-append}
 
 -- what holds of a mark k and a shape q holds of those that equal them

@@ -9,7 +9,7 @@ use text::put_number;
 use text::put_numbers;
 use text::put_signed;
 ghost use mathlib.Core.Path.{_≡_};
-ghost use mathlib.Core.List.{[], _∷_, _++_};
+ghost use mathlib.Core.List.{[], _∷_};
 ghost use Prim.Native.Nat.{_+_, _*_, _≤_, _<_};
 ghost use lib.ListN.{length};
 ghost use Rattle.io.specs.Counts.{Counts};
@@ -17,7 +17,8 @@ ghost use Rattle.names.specs.Table.{operations};
 ghost use Rattle.rules.specs.Calls.{fullCall};
 ghost use Rattle.rules.specs.Decode.{nth};
 ghost use Rattle.printing.specs.Text.{numbers, Wrote, Holds};
-ghost use Rattle.printing.specs.Lines.{nths, lettersOf, fieldsIn, Shaped, Prints, line, textOf, refusalText, answerText, recordsIn};
+ghost use Rattle.printing.specs.Lines.{line, textOf, refusalText, answerText, recordsIn};
+ghost use Rattle.printing.specs.Shapes.{nths, lettersOf, fieldsIn, Shaped, Prints};
 
 // The marks that records open with: two letters as a number.
 const ST: u32 = 0x5354;

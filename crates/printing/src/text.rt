@@ -1,6 +1,5 @@
 // Text in a lent buffer. Each function gives the place behind what it wrote; text is cut off where the buffer ends.
-ghost use mathlib.Core.List.{[], _∷_, _++_};
-ghost use Rattle.lexer.specs.Text.{bytes};
+ghost use mathlib.Core.List.{[], _∷_};
 ghost use Rattle.printing.specs.Text.{decimal, signed, numbers, Wrote};
 
 pub fn put(out: &mut [u8], at: usize, b: u8) -> usize

@@ -1,13 +1,14 @@
 -- The invariant: the records before the place are printed and counted. Where no record is left, their lines and the last one are the whole text.
 use Prim.Native.Nat.{_+_, _-_}
-use mathlib.Core.Path.{_≡_, refl, sym, ap, _∙_}
+use mathlib.Core.Path.{_≡_, ap}
 use mathlib.Core.List.{[]}
 use native.Mathlib.Omega.{arith}
 use borrow.Author.Needs.{needs}
 use denote.Ref.{now}
 use lib.ListN.{length, take, drop, drop-of-length-le}
 use Rattle.printing.specs.Text.{Wrote}
-use Rattle.printing.specs.Lines.{textOf, recordsIn, Printed}
+use Rattle.printing.specs.Lines.{textOf, recordsIn}
+use Rattle.printing.specs.Shapes.{Printed}
 use Rattle.printing.proofs.Writes.{wrote-length, holds}
 use Rattle.printing.proofs.Shapes.{tail}
 use Rattle.printing.proofs.Records.{Begun, begun, begun-more, ended, ended-short, records-none}

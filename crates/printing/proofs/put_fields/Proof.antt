@@ -1,13 +1,13 @@
 -- The invariant: the mark and the first i fields are written.
-use Prim.Native.Nat.{ℕ, _≤_, _-_}
+use Prim.Native.Nat.{_≤_, _-_}
 use mathlib.Core.Path.{_≡_, sym, ap}
-use mathlib.Core.List.{List, [], _∷_}
+use mathlib.Core.List.{[], _∷_}
 use denote.Ref.{now}
 use borrow.Author.Needs.{needs}
 use native.Mathlib.Omega.{arith}
 use Rattle.rules.specs.Decode.{nth}
 use Rattle.printing.specs.Text.{numbers, Wrote}
-use Rattle.printing.specs.Lines.{nthsFrom, nths}
+use Rattle.printing.specs.Shapes.{nthsFrom, nths}
 use Rattle.printing.proofs.Writes.{nothing, wrote-length, follows, reads-as, behind}
 use Rattle.printing.proofs.Digits.{nths-more}
 use Rattle.printing.proofs.put_fields.Statement.{statement}

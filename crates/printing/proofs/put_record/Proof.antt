@@ -1,7 +1,7 @@
 -- The shape says which record stands there; its parts are written one behind the other.
-use Prim.Native.Nat.{ℕ, _+_, _*_, _-_}
+use Prim.Native.Nat.{_+_, _*_, _-_}
 use mathlib.Core.Path.{_≡_, refl}
-use mathlib.Core.List.{List, _++_}
+use mathlib.Core.List.{_++_}
 use borrow.Author.Needs.{needs}
 use native.Mathlib.Omega.{arith}
 use denote.Ref.{now}
@@ -9,7 +9,7 @@ use lib.ListN.{take, drop, length-drop}
 use Rattle.lexer.specs.Text.{bytes}
 use Rattle.rules.specs.Decode.{nth}
 use Rattle.printing.specs.Text.{numbers, signed}
-use Rattle.printing.specs.Lines.{nths, Lined, Shaped}
+use Rattle.printing.specs.Shapes.{nths, Lined, Shaped}
 use Rattle.printing.proofs.Writes.{follows, reads-as}
 use Rattle.printing.proofs.Room.{fields-short, value-short, data-short}
 use Rattle.printing.proofs.Shapes.{no-mark, printed, two-letters, tail, whole-line}

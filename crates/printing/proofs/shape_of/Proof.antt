@@ -1,13 +1,12 @@
 -- In each arm the mark is known, so the definition computes which record it opens; the last arm is none of them.
-use mathlib.Core.Path.{_≡_, refl, sym, ap, _∙_}
-use mathlib.Core.List.{List, [], _∷_}
+use mathlib.Core.Path.{refl, sym, _∙_}
 use native.Mathlib.Omega.{arith}
 use denote.Ref.{now}
-use lib.ListN.{length}
 use Rattle.lexer.specs.Text.{bytes, same}
-use Rattle.rules.specs.Records.{ST, VC, VL, VI, VS, PF, IN, OR, OS, OI, OF, OD, OX, LL, LI, LC, LT}
+use Rattle.rules.specs.Records.{ST, VL, VI, VS, PF, IN, OR, OS, OI, OF, OD, OX, LL, LI, LC}
 use Rattle.rules.specs.Decode.{nth, recordOf}
-use Rattle.printing.specs.Lines.{openLines, lineOf, line, nthsFrom, lettersOf, fieldsIn, Shaped}
+use Rattle.printing.specs.Lines.{lineOf, line}
+use Rattle.printing.specs.Shapes.{nthsFrom, lettersOf, fieldsIn}
 use Rattle.printing.proofs.Shapes.{marked, fielded, value-there, no-value, data-there, no-data, times-there, no-times, not-first, not-second, others}
 use borrow.Author.Needs.{needs}
 use Rattle.printing.proofs.shape_of.Statement.{statement}

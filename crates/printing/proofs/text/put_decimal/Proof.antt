@@ -1,6 +1,5 @@
 -- The digits of `io` are those of the definition.
 use mathlib.Core.Path.{_∙_}
-use native.Mathlib.Omega.{arith}
 use Rattle.printing.proofs.Writes.{reads-as}
 use Rattle.printing.proofs.Digits.{fewest}
 use borrow.Author.Needs.{needs}

@@ -1,5 +1,4 @@
 -- A number below the half is its own digits; a larger one is the minus and what is left to the whole.
-use mathlib.Core.Path.{sym}
 use borrow.Author.Tests.{lt-ltb, le-ltb}
 use Rattle.lexer.specs.Text.{bytes}
 use Rattle.printing.specs.Text.{signed}
