@@ -133,20 +133,24 @@ fn keep_and_copy(
     }
 }
 
-// They are kept in a local buffer of eight times the source or more, which most listings fit.
+// They are kept in a local buffer of four times the source or more, which most listings fit; a larger one would cost more to clear.
 fn all_statements(source: &[u8], table: &[u8; 936], out: &mut [u8], p: Parser) -> FullAnswer
     requires { ⌜ (length (now source) ≤ 65536) × (foreignPlace (now source) ≡ length (now source)) × (now table ≡ operations) × Started (now source) 0 p ⌝ }
     ensures { λ r. ⌜ FullRead (now (source .entry)) (now (out .entry)) (now (out .exit)) r ⌝ }
 {
-    if source.len() <= 2048 {
+    if source.len() <= 1024 {
+        let mut kept = [0u8; 4096];
+        return keep_and_copy(source, table, &mut kept, out, p);
+    }
+    if source.len() <= 4096 {
         let mut kept = [0u8; 16384];
         return keep_and_copy(source, table, &mut kept, out, p);
     }
     if source.len() <= 16384 {
-        let mut kept = [0u8; 131072];
+        let mut kept = [0u8; 65536];
         return keep_and_copy(source, table, &mut kept, out, p);
     }
-    let mut kept = [0u8; 524288];
+    let mut kept = [0u8; 262144];
     keep_and_copy(source, table, &mut kept, out, p)
 }
 
