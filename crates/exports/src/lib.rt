@@ -14,6 +14,7 @@ use parser::state::Refusal;
 use reader::FullAnswer;
 use reader::StatementAnswer;
 use reader::TokenAnswer;
+ghost use Rattle.exports.specs.Counted.{countFrom};
 ghost use mathlib.Core.Path.{_≡_};
 ghost use lib.ListN.{length, drop};
 ghost use Rattle.lexer.specs.Tokens.{tokenAt, faultNumber};
@@ -413,4 +414,19 @@ pub extern "C" fn laqhoncu_operations(rows: &[u8], numbers: &mut [u8])
         i += 1;
         at += 8;
     }
+}
+
+// How many tokens a source has, whitespace and comments among them.
+#[no_mangle]
+pub extern "C" fn laqhoncu_count(source: &[u8]) -> usize
+    ensures { λ r. ⌜ r ≡ countFrom 0 (now (source .entry)) ⌝ }
+{
+    let mut at: usize = 0;
+    let mut n: usize = 0;
+    while at < source.len() {
+        let t = lexer::scan(source, at);
+        at = t.end;
+        n += 1;
+    }
+    n
 }
