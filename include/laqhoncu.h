@@ -64,6 +64,9 @@ struct laqhoncu_token_reading laqhoncu_token_read(const uint8_t *source, size_t 
 /* The token at a place without these tests; beyond the end it is the end of file. */
 struct laqhoncu_token_found laqhoncu_token(const uint8_t *source, size_t length, size_t place);
 
+/* How many tokens a source has, whitespace and comments among them. */
+size_t laqhoncu_count(const uint8_t *source, size_t length);
+
 /* The operator 0 `+`, 1 `-`, 2 `*` or 3 `/` on two numbers; another operator number is refused with 255. */
 struct laqhoncu_valuation laqhoncu_evaluate(uint8_t operator_number, int32_t left, int32_t right);
 

@@ -47,6 +47,7 @@ struct Valuation {
 extern "C" {
     // A slice of Rattle's is a pointer and a length.
     fn laqhoncu_token(source: *const u8, length: usize, place: usize) -> TokenFound;
+    fn laqhoncu_count(source: *const u8, length: usize) -> usize;
     fn laqhoncu_operation(word: *const u8, length: usize) -> u8;
     fn laqhoncu_operations(rows: *const u8, length: usize, numbers: *mut u8, count: usize);
     fn laqhoncu_name(word: *const u8, length: usize) -> u16;
@@ -110,6 +111,11 @@ pub fn evaluate(operator: u8, left: i32, right: i32) -> Result<i32, Refusal> {
 pub fn token(source: &[u8], place: usize) -> Found {
     let found = unsafe { laqhoncu_token(source.as_ptr(), source.len(), place) };
     Found { kind: found.kind, length: found.end - place, value: found.value as u32 }
+}
+
+/// How many tokens a source has, the end of file left out.
+pub fn count(source: &[u8]) -> usize {
+    unsafe { laqhoncu_count(source.as_ptr(), source.len()) }
 }
 
 /// The number of the operation that a word names, or 255.
