@@ -2,10 +2,16 @@
 use super::expressions::expression;
 use super::operands::OperandsRead;
 use super::operands::operands;
+use super::state::CLOSED;
+use super::state::COLON;
+use super::state::COMMA;
+use super::state::NUMBER;
 use super::state::Parsed;
 use super::state::Parser;
 use super::state::Refusal;
 use super::state::Step;
+use super::state::UNCLOSED;
+use super::state::WORD;
 use super::state::is_line_end;
 use super::state::next;
 use super::state::next_line;
@@ -89,7 +95,7 @@ fn label(src: &[u8], out: &mut [u8], at: u32, p: Parser) -> Parsed
     match next(src, p) {
         Step::Stopped(r) => Parsed::Refused(r),
         Step::Ahead(q) => {
-            if q.kind == b':' {
+            if q.kind == COLON {
                 match next(src, q) {
                     Step::Stopped(r) => Parsed::Refused(r),
                     Step::Ahead(after) => {
@@ -221,19 +227,19 @@ fn literal(src: &[u8], out: &mut [u8], at: u32, p: Parser, width: u8) -> Literal
     ensures { λ r. ⌜ answers.ReadsLiteral (now (src .entry)) p width at (now (out .entry)) (now (out .exit)) r ⌝ }
 {
     let kind = p.kind;
-    if kind == b',' {
+    if kind == COMMA {
         return LiteralRead::Bytes(at, false);
     }
-    if kind == b'0' {
+    if kind == NUMBER {
         let w = put_number(out, at, p.value, width);
         return LiteralRead::Bytes(w, true);
     }
-    if kind == b'\'' {
+    if kind == CLOSED {
         let word = text(src, p);
         let w = put_characters(out, at, word);
         return LiteralRead::Bytes(w, 2 < word.len());
     }
-    if kind == b'"' {
+    if kind == UNCLOSED {
         return LiteralRead::Refused(refuse_here(p, 26));
     }
     LiteralRead::Refused(refuse_here(p, 15))
@@ -304,18 +310,19 @@ fn line(src: &[u8], table: &[u8; 936], out: &mut [u8], at: u32, p: Parser, left:
     requires { ⌜ (length (now src) ≤ 65536) × (keys.goodTable (now table) ≡ true) ⌝ }
     ensures { λ r. ⌜ Reads whole (now (src .entry)) p (rules.line (now (table .entry)) (rules.times (now (table .entry)) left)) at (now (out .entry)) (now (out .exit)) r ⌝ }
 {
-    if p.kind != b'a' {
+    if p.kind != WORD {
         return Parsed::Refused(refuse_here(p, 20));
     }
     let word = text(src, p);
-    match names::operation(table, word) {
-        Found::Operation(operation) => instruction(src, out, at, p, operation),
-        Found::Nothing => match names::directive_of(word) {
-            Directive::Equ => constant(src, out, at, p),
-            Directive::Db => data_of(src, out, at, p, 1),
-            Directive::Dw => data_of(src, out, at, p, 2),
-            Directive::Times => times(src, table, out, at, p, left),
-            Directive::Other => label(src, out, at, p),
+    let key = names::word_key(word);
+    match names::directive_by(key) {
+        Directive::Equ => constant(src, out, at, p),
+        Directive::Db => data_of(src, out, at, p, 1),
+        Directive::Dw => data_of(src, out, at, p, 2),
+        Directive::Times => times(src, table, out, at, p, left),
+        Directive::Other => match names::operation_by(table, key) {
+            Found::Operation(operation) => instruction(src, out, at, p, operation),
+            Found::Nothing => label(src, out, at, p),
         },
     }
 }
