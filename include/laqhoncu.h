@@ -12,11 +12,11 @@ extern "C" {
 
 /* A refusal: its number (0 is none), its span and its registers; a register that is not there is 255. */
 struct laqhoncu_numbers {
-    uint8_t number;
+    uint32_t number;
     uint32_t from;
     uint32_t to;
-    uint8_t first;
-    uint8_t second;
+    uint32_t first;
+    uint32_t second;
 };
 
 /* kind: a punctuation's own character, '\n', ' ' (whitespace), ';' (comment), 'a' (name), '0' (number), '\'' (closed string),

@@ -11,11 +11,11 @@ struct TokenFound {
 
 #[repr(C)]
 struct Numbers {
-    number: u8,
+    number: u32,
     from: u32,
     to: u32,
-    first: u8,
-    second: u8,
+    first: u32,
+    second: u32,
 }
 
 #[repr(C)]
@@ -64,7 +64,8 @@ impl Numbers {
     fn checked(self) -> Result<(), Refusal> {
         let Numbers { number, from, to, first, second } = self;
         if number != 0 {
-            return Err(Refusal { number, from: from as usize, to: to as usize, first, second });
+            let byte = |n: u32| u8::try_from(n).unwrap();
+            return Err(Refusal { number: byte(number), from: from as usize, to: to as usize, first: byte(first), second: byte(second) });
         }
         assert_eq!((from, to, first, second), (0, 0, 255, 255));
         Ok(())

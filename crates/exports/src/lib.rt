@@ -196,11 +196,11 @@ pub extern "C" fn laqhoncu_directive(word: &[u8]) -> u8
 // A refusal as document 01 numbers it; number 0 is none. A register that is not there is 255.
 #[repr(C)]
 pub struct Numbers {
-    pub number: u8,
+    pub number: u32,
     pub from: u32,
     pub to: u32,
-    pub first: u8,
-    pub second: u8,
+    pub first: u32,
+    pub second: u32,
 }
 
 // Number 0, and how many bytes were written; or the refusal, and 0.
@@ -233,7 +233,7 @@ pub struct Valuation {
     pub value: i32,
 }
 
-fn numbered(number: u8) -> Numbers
+fn numbered(number: u32) -> Numbers
     ensures { λ r. ⌜ r ≡ readings.numbered number ⌝ }
 {
     Numbers {
