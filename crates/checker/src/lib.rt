@@ -68,14 +68,14 @@ enum Passed {
 }
 
 // Two letters as a mark.
-fn marked(a: u8, b: u8) -> usize
+pub fn marked(a: u8, b: u8) -> usize
     ensures { λ r. ⌜ lettersOf r ≡ a ∷ b ∷ [] ⌝ }
 {
     256 * (a as usize) + b as usize
 }
 
 // Four bytes as a number, low first.
-fn joined(a: u8, b: u8, c: u8, d: u8) -> usize
+pub fn joined(a: u8, b: u8, c: u8, d: u8) -> usize
     ensures { λ r. ⌜ (r ≡ a + 256 * (b + 256 * (c + 256 * d))) × (r < 4294967296) ⌝ }
 {
     a as usize + 256 * (b as usize + 256 * (c as usize + 256 * (d as usize)))

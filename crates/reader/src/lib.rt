@@ -86,7 +86,7 @@ fn foreign(source: &[u8]) -> usize
 }
 
 // 1 and 2, over the whole source.
-fn readable(source: &[u8]) -> Lent
+pub fn readable(source: &[u8]) -> Lent
     ensures { λ r. ⌜ r ≡ lentOf (now (source .entry)) ⌝ }
 {
     if 65536 < source.len() {

@@ -1,0 +1,73 @@
+// Lines read alone (40): the replaced one, the new one, and the nearest above that has more than blanks and a comment.
+use parser::state::Parsed;
+use parser::state::Step;
+use parser::state::is_line_end;
+use parser::statements::start;
+use parser::statements::statements;
+ghost use mathlib.Core.Path.{_≡_};
+ghost use mathlib.Core.Bool.{true, false};
+ghost use mathlib.Core.List.{[]};
+ghost use Prim.Native.Nat.{ℕ, _≤_};
+ghost use lib.ListN.{length};
+ghost use Rattle.lexer.specs.Text.{maybe, among};
+ghost use Rattle.names.specs.Table.{operations};
+ghost use Rattle.rules.specs.Patch.{beginsLine, above, linesFrom, bareLine, nearest, leavesOpen};
+
+// Whether a line leaves a `times` without its content.
+pub fn leaves_open(line: &[u8], table: &[u8; 936]) -> bool
+    requires { ⌜ (length (now line) ≤ 65536) × (now table ≡ operations) ⌝ }
+    ensures { λ r. ⌜ r ≡ leavesOpen operations (now (line .entry)) ⌝ }
+{
+    let mut nothing = [0u8; 0];
+    match start(line, 0) {
+        Step::Stopped(r) => r.number == 34,
+        Step::Ahead(p) => match statements(line, table, &mut nothing, 0, p) {
+            Parsed::Refused(r) => r.number == 34,
+            Parsed::Done(_, _) => false,
+        },
+    }
+}
+
+// Whether a line has only blanks and a comment.
+fn is_bare(line: &[u8]) -> bool
+    requires { ⌜ (length (now line) ≤ 65536) × (among 10 (now line) ≡ false) ⌝ }
+    ensures { λ r. ⌜ r ≡ bareLine (now (line .entry)) ⌝ }
+{
+    match start(line, 0) {
+        Step::Stopped(_) => false,
+        Step::Ahead(p) => {
+            let kind = p.kind;
+            is_line_end(kind)
+        }
+    }
+}
+
+// Where the line begins that ends before a place.
+fn line_start(source: &[u8], end: usize) -> usize {
+    let mut i = end;
+    while 0 < i {
+        if source[i - 1] == b'\n' {
+            return i;
+        }
+        i = i - 1;
+    }
+    0
+}
+
+// Whether the nearest line above a place that has more leaves a `times` open.
+pub fn nearest_open(source: &[u8], place: usize, table: &[u8; 936]) -> bool
+    requires { ⌜ (length (now source) ≤ 65536) × (beginsLine (now source) place ≡ true) × (now table ≡ operations) ⌝ }
+    ensures { λ r. ⌜ r ≡ maybe (nearest (linesFrom [] (above (now (source .entry)) place))) false (leavesOpen operations) ⌝ }
+{
+    let mut below = place;
+    while 0 < below {
+        let end = below - 1;
+        let begin = line_start(source, end);
+        let line = &source[begin..end];
+        if !is_bare(line) {
+            return leaves_open(line, table);
+        }
+        below = begin;
+    }
+    false
+}

@@ -1,0 +1,122 @@
+// The records of an old listing: where its statements from a place on stand, and those moved.
+use super::lines::copy;
+ghost use mathlib.Core.Path.{_≡_};
+ghost use Prim.Native.Nat.{ℕ, _+_, _-_, _≤_, _<_};
+ghost use lib.ListN.{length, drop};
+ghost use Rattle.records.specs.Writes.{stores};
+ghost use Rattle.patch.specs.Moves.{Decodes, First, recordsAt, movedBytes};
+
+// The field at a place.
+fn field(s: &[u8], at: usize) -> usize {
+    checker::joined(s[at], s[at + 1], s[at + 2], s[at + 3])
+}
+
+const ST: usize = 0x5354;
+
+const VC: usize = 0x5643;
+
+const PF: usize = 0x5046;
+
+const IN: usize = 0x494e;
+
+const OR: usize = 0x4f52;
+
+const OS: usize = 0x4f53;
+
+const OD: usize = 0x4f44;
+
+const OX: usize = 0x4f58;
+
+const LI: usize = 0x4c49;
+
+const LD: usize = 0x4c44;
+
+const LT: usize = 0x4c54;
+
+// How many bytes the record with this mark at a place has.
+fn size(s: &[u8], at: usize, mark: usize) -> usize {
+    match mark {
+        ST => 6,
+        VC => 14,
+        PF => 14,
+        IN => 14,
+        OR => 14,
+        OS => 14,
+        OD => 18,
+        OX => 26,
+        LI => 26,
+        LD => 14 + field(s, at + 10),
+        _ => 10,
+    }
+}
+
+// Where in the listing, from one record on, the first statement with that place or above stands.
+pub fn first_from(listing: &[u8], from: usize, place: usize) -> usize
+    requires { ⌜ Decodes (now listing) from ⌝ }
+    ensures { λ r. ⌜ First (now (listing .entry)) from place r ⌝ }
+{
+    let mut i = from;
+    while i < listing.len() {
+        let mark = checker::marked(listing[i], listing[i + 1]);
+        if mark == ST {
+            if place <= field(listing, i + 2) {
+                return i;
+            }
+        }
+        i = i + size(listing, i, mark);
+    }
+    i
+}
+
+// A field moved in its place.
+fn move_field(s: &mut [u8], at: usize, q: usize, p: usize) {
+    let v = field(s, at) + q;
+    let mut w: usize = 0;
+    if p <= v {
+        w = v - p;
+    }
+    s[at] = (w % 256) as u8;
+    s[at + 1] = (w / 256 % 256) as u8;
+    s[at + 2] = (w / 65536 % 256) as u8;
+    s[at + 3] = (w / 16777216 % 256) as u8;
+}
+
+// The record at a place moved: ST's place, or its spans.
+fn move_record(s: &mut [u8], at: usize, mark: usize, q: usize, p: usize) {
+    if mark == LT {
+        return;
+    }
+    move_field(s, at + 2, q, p);
+    if mark == ST {
+        return;
+    }
+    move_field(s, at + 6, q, p);
+    if mark == LI {
+        move_field(s, at + 18, q, p);
+        move_field(s, at + 22, q, p);
+    }
+}
+
+// A listing moved.
+fn move_all(s: &mut [u8], q: usize, p: usize)
+    requires { ⌜ Decodes (now s) 0 × (q ≤ 65536) ⌝ }
+    ensures { λ _. ⌜ now (s .exit) ≡ movedBytes q p (recordsAt (now (s .entry)) 0) ⌝ }
+{
+    let mut i: usize = 0;
+    while i < s.len() {
+        let mark = checker::marked(s[i], s[i + 1]);
+        let n = size(s, i, mark);
+        move_record(s, i, mark, q, p);
+        i = i + n;
+    }
+}
+
+// The records of a listing from a place on, moved, copied to a place.
+pub fn move_rest(listing: &[u8], on: usize, out: &mut [u8], at: usize, q: usize, p: usize)
+    requires { ⌜ Decodes (now listing) on × (on ≤ length (now listing)) × (q ≤ 65536) × (at + (length (now listing) - on) ≤ length (now out)) ⌝ }
+    ensures { λ _. ⌜ now (out .exit) ≡ stores (now (out .entry)) at (movedBytes q p (recordsAt (now (listing .entry)) on)) ⌝ }
+{
+    let end = at + (listing.len() - on);
+    copy(out, at, &listing[on..]);
+    move_all(&mut out[at..end], q, p);
+}
