@@ -1,6 +1,7 @@
 -- Lines of a source, and what a line says read alone.
 -- Assumes nothing.
 use Prim.Native.Nat.{ℕ, zero, suc, pred, _+_, _-_, _≤_, _<_}
+use Prim.Native.Char.{code}
 use mathlib.Core.Path.{_≡_, refl, sym, ap, ap₂, _∙_}
 use mathlib.Core.Bool.{Bool, true, false, not, _&&_, _||_, and-true, true≢false}
 use mathlib.Core.List.{List, [], _∷_, _++_, append-nil, append-assoc}
@@ -9,8 +10,7 @@ use native.Mathlib.Omega.{arith}
 use borrow.Author.Tests.{eqb-true, eqb-false, eq-eqb, ne-eqb, lt-ltb, le-leb, lt-leb, leb-true}
 use lib.Dec.{eqb, leb, ltb, leb·suc-suc}
 use lib.ListN.{length, take, drop, getD, length-take, length-drop}
-use lib.Seq.{take-suc, take-add, length-take-le}
-use Prim.Native.Char.{code}
+use lib.Seq.{take-suc, take-add}
 use Rattle.lexer.specs.Text.{if_then_else_, maybe, is, within, anyOf, isBlank, isDigit, isHexDigit, isLetter, among, run, all, last, digit, valueFrom}
 use Rattle.lexer.specs.Tokens.{largest, numeral, stray, prefixed, digits, inBase, suffixed, numberAt, inQuotes, stringAfter, inComment, mark, markAt, tokenAt, sizeOf}
 use Rattle.lexer.specs.declared.TokenRead.{TokenRead}
