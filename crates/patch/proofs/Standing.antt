@@ -20,6 +20,8 @@ use Rattle.rules.proofs.PatchBytes.{length-moved}
 use Rattle.records.specs.Writes.{stores}
 use Rattle.records.proofs.Writes.{stores-room}
 use Rattle.checker.specs.Checker.{lettersOf}
+use Rattle.checker.proofs.Fields.{field-nth, field-bytes}
+use Rattle.checker.proofs.Arms.{Away}
 use Rattle.patch.proofs.Moving.{octets, octets-drop}
 use Rattle.patch.specs.Moves.{recordsAt, Decodes, first, recordAt, Opens, fieldAt, moveField}
 
@@ -259,6 +261,10 @@ module _ {l : List ℕ} {at mark : ℕ} (o : Opens l at mark) where
   pub room-ten : (mark ≡ 0x5354 → ⊥) → at + 10 ≤ length l
   room-ten n = let w = stands o in omega (arith, w .fits, long-ten (w .shaped (λ i. i)) (λ e. n (w .marked ∙ e)))
 
+  pub room-line : mark ≡ 0x4c49 → at + 26 ≤ length l
+  unfolding sizeBy
+  room-line e = let w = stands o in omega (arith, w .fits, size-by e refl)
+
   pub room-all : at + length (encode (recordAt l at)) ≤ length l
   room-all = stands o .fits
 
@@ -272,3 +278,41 @@ module _ {l : List ℕ} {at mark : ℕ} (o : Opens l at mark) where
 
   pub no-start : (a : ℕ) → (mark ≡ 0x5354 → ⊥) → false ≡ statementFrom a (recordAt l at)
   no-start a n = let w = stands o in other-of a (w .shaped (λ i. i)) (λ e. n (w .marked ∙ e))
+
+  pub size-six : 6 ≤ length (encode (recordAt l at))
+  size-six = long-six (stands o .shaped (λ i. i))
+
+-- the size by the marks that are none of those with another size
+pub other-size : (m n : ℕ) → Away m (0x5354 ∷ 0x5643 ∷ 0x5046 ∷ 0x494e ∷ 0x4f52 ∷ 0x4f53 ∷ 0x4f44 ∷ 0x4f58 ∷ 0x4c49 ∷ 0x4c44 ∷ []) (Unit {0}) → sizeBy m n ≡ 10
+unfolding sizeBy
+other-size m n h₁₀ =
+    let (h₉, ld) = h₁₀ in
+    let (h₈, li) = h₉ in
+    let (h₇, ox) = h₈ in
+    let (h₆, od) = h₇ in
+    let (h₅, os) = h₆ in
+    let (h₄, or) = h₅ in
+    let (h₃, in′) = h₄ in
+    let (h₂, pf) = h₃ in
+    let (h₁, vc) = h₂ in
+    let (h₀, st) = h₁ in
+    rw (
+      ne-eqb m 0x5354 st,
+      ne-eqb m 0x5643 vc,
+      ne-eqb m 0x5046 pf,
+      ne-eqb m 0x494e in′,
+      ne-eqb m 0x4f52 or,
+      ne-eqb m 0x4f53 os,
+      ne-eqb m 0x4f44 od,
+      ne-eqb m 0x4f58 ox,
+      ne-eqb m 0x4c49 li,
+      ne-eqb m 0x4c44 ld,
+    )
+
+-- a field's four bytes joined
+pub field-joined : (l : List ℕ) (at : ℕ) → at + 4 ≤ length l → fieldAt l at ≡ getD l at 0 + 256 * (getD l (at + 1) 0 + 256 * (getD l (at + 2) 0 + 256 * getD l (at + 3) 0))
+unfolding fieldAt nth
+field-joined l at h =
+    let s : List ℕ = drop at l in
+    let k : 4 * 0 + 4 ≤ length s = omega (arith, length-drop at l) in
+    sym (field-nth 0 s k) ∙ field-bytes 0 s k ∙ rw (getD-drop at l 0 0, getD-drop at l 1 0, getD-drop at l 2 0, getD-drop at l 3 0, add-zero at)
