@@ -6,10 +6,10 @@ use mathlib.Core.List.{List, [], _∷_, _++_, map, append-assoc}
 use mathlib.Core.Option.{Option, none, some}
 use Prim.Native.Nat.{ℕ, zero, suc, pred, _+_, _*_, _-_, _≤_, _<_}
 use native.Mathlib.Omega.{arith}
-use native.Mathlib.Nat.{zero-add}
+use native.Mathlib.Nat.{zero-add, sub-zero}
 use lib.Dec.{eqb, leb}
 use lib.ListN.{length, take, drop, getD, length-append, length-drop}
-use lib.Seq.{take-at, take-length, paste}
+use lib.Seq.{take-at, take-length, length-take-le, paste}
 use borrow.Author.Tests.{leb-false, lt-leb}
 use Rattle.lexer.specs.Text.{if_then_else_, maybe}
 use Rattle.rules.specs.Records.{Record, ST, VC, VL, VI, VS, PF, IN, OR, OS, OI, OF, OD, OX, LL, LI, LD, LC, LT, field, encode, listing, moveRecord}
@@ -18,12 +18,28 @@ use Rattle.rules.specs.Patch.{statementFrom, recordsBelow, recordsOn}
 use Rattle.rules.proofs.Reencode.{Octets, reencoded}
 use Rattle.rules.proofs.PatchBytes.{kept-bytes, listing-moved}
 use Rattle.records.specs.Writes.{stores}
-use Rattle.records.proofs.Writes.{stores-room}
+use Rattle.rules.specs.Calls.{overwrite}
+use Rattle.records.proofs.Writes.{stores-room, stored-before}
+use Rattle.reader.proofs.FullReads.{stored-over}
+use Rattle.checker.proofs.Walk.{rest-of}
 use Rattle.patch.specs.Moves.{recordsAt, Decodes, First, movedBytes}
 
 -- Bytes that are copied whole.
 pub pasted : (l : List ℕ) (at : ℕ) (b : List ℕ) → at + length b ≤ length l → paste l at b (length b) ≡ stores l at b
 pasted l at b h = ap (λ (s : List ℕ). take at l ++ s ++ drop (at + length b) l) (take-length b) ∙ sym (stores-room l at b h)
+
+-- Three runs of bytes that fill a buffer from its first byte on, the last copied first.
+pub exchanged-over : (s t : List ℕ) (a e : ℕ) {l l₁ l₂ l₃ : List ℕ} → a ≤ length s → a + length t + (length s - e) ≤ length l
+    → l₁ ≡ stores l (a + length t) (take (length s - e) (drop e s)) → l₂ ≡ stores l₁ a t → l₃ ≡ stores l₂ 0 (take (a - 0) (drop 0 s)) → l₃ ≡ overwrite (take a s ++ (t ++ drop e s)) l
+exchanged-over s t a e {l} {l₁} {l₂} {l₃} h k i j m =
+    let A : List ℕ = take a s in
+    let D : List ℕ = drop e s in
+    let x : length A ≡ a = length-take-le a s h in
+    let y : length D ≡ length s - e = length-drop e s in
+    let u : l₂ ≡ stores l a (t ++ D) = j ∙ ap (λ (o : List ℕ). stores o a t) (i ∙ ap (stores l (a + length t)) (rest-of s e)) ∙ stored-before l a t D in
+    let v : l₃ ≡ stores l 0 (A ++ (t ++ D)) =
+    m ∙ ap₂ (λ (o : List ℕ) (n : ℕ). stores o 0 (take n s)) u (sub-zero a) ∙ ap (λ (n : ℕ). stores (stores l n (t ++ D)) 0 A) (sym (zero-add (length A) ∙ x)) ∙ stored-before l 0 A (t ++ D) in
+    v ∙ stored-over l (A ++ (t ++ D)) (omega (arith, length-append A (t ++ D), length-append t D))
 
 -- The elements of a lent slice are bytes.
 pub octets : (l : List ℕ) → ((i : ℕ) → getD l i 0 < 256) → Octets l

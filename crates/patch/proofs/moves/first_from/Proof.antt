@@ -57,7 +57,7 @@ loop-less : tie.Need-loop-less Inv-loop μ-loop
 loop-less c = omega (arith, room-all (opens (c .before .before .before)), size-six (opens (c .before .before .before)), c .size .ensures)
 
 loop-again : tie.Need-loop-again Inv-loop μ-loop
-loop-again c = subst (λ (n : ℕ). Passes _ _ _ (c .before .before .before .before .before .before .before .loop .i + n)) (sym (c .size .ensures)) (passes-again (c .before .before .before .before .before .before .before .loop .inv) (opens (c .before .before .before)) (sym (c .before .if1 .left) ∙ c .before .before .starts .ensures))
+loop-again c = rw (c .size .ensures) (passes-again (c .before .before .before .before .before .before .before .loop .inv) (opens (c .before .before .before)) (sym (c .before .if1 .left) ∙ c .before .before .starts .ensures))
 
 returns-2 : tie.Need-returns-2 Inv-loop μ-loop
 returns-2 c = passes-end (c .before .loop .inv) (c .loop-test .left)

@@ -53,7 +53,7 @@ same-length-2 c = search needs
 returns-3 : tie.Need-returns-3
 returns-3 c = 
     let a = c .before .before .before .before .before .before .before .before .before .before .before .before .before .before .before .before .before .before .before .before .args in
-    let step = λ (n : ℕ) (l : List ℕ). moveField (a .q) (a .p) l (a .at + n) in
+    let step : ℕ → List ℕ → List ℕ = λ n l. moveField (a .q) (a .p) l (a .at + n) in
     c .before .before .move-field4 .ensures ∙ ap (step 22) (c .before .before .before .before .before .before .move-field3 .ensures ∙ ap (step 18) (c .before .before .before .before .before .before .before .before .before .before .before .move-field2 .ensures ∙ ap (step 6) (c .before .before .before .before .before .before .before .before .before .before .before .before .before .before .before .before .move-field .ensures))) ∙ moved-line _ _ (c .before .before .before .before .before .before .before .before .before .before .before .before .before .before .before .before .before .before .before .before .pre .0) (c .before .before .before .before .before .before .before .before .before .before .before .before .before .before .before .before .before .before .if1 .left) (c .before .before .before .before .before .before .before .before .before .before .before .before .before .if2 .left) (c .before .before .before .before .before .before .before .before .if3 .taken)
 
 same-length-3 : tie.Need-same-length-3
