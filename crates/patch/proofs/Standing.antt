@@ -2,28 +2,25 @@
 -- Assumes nothing.
 use mathlib.Core.Path.{_≡_, refl, sym, ap, ap₂, _∙_}
 use mathlib.Core.Bool.{Bool, true, false, true≢false}
-use mathlib.Core.List.{List, [], _∷_, _++_, append-assoc}
+use mathlib.Core.List.{List, [], _∷_, _++_}
 use mathlib.Core.Option.{Option, none, some}
-use Prim.Native.Nat.{ℕ, zero, suc, pred, _+_, _*_, _-_, _/_, _%_, _≤_, _<_, zero-le}
+use Prim.Native.Nat.{ℕ, zero, suc, pred, _+_, _*_, _/_, _%_, _≤_, _<_, zero-le}
 use native.Mathlib.Omega.{arith}
 use native.Mathlib.Nat.{add-zero}
 use lib.Dec.{eqb, leb}
-use lib.ListN.{length, take, drop, getD, take-append-drop, length-append, length-take, length-drop, List·getD-append}
-use lib.Seq.{take-at, drop-at, drop-drop, getD-drop, length-take-le}
-use borrow.Author.Tests.{leb-true, eqb-false, eq-eqb, ne-eqb}
+use lib.ListN.{length, take, drop, getD, length-append, length-drop, List·getD-append}
+use lib.Seq.{drop-drop, getD-drop, length-take-le}
+use borrow.Author.Tests.{leb-true, eqb-false, ne-eqb}
 use Rattle.lexer.specs.Text.{if_then_else_, maybe, bytes, same}
 use Rattle.rules.specs.Records.{Record, ST, VC, VL, VI, VS, PF, IN, OR, OS, OI, OF, OD, OX, LL, LI, LD, LC, LT, field, fields, encode, listing, moveRecord}
 use Rattle.rules.specs.Decode.{Sized, value, nth, having, dataAt, recordOf, also, recordsFrom, decode}
 use Rattle.rules.specs.Patch.{statementFrom}
 use Rattle.rules.proofs.Reencode.{Octets, reencoded}
-use Rattle.rules.proofs.PatchBytes.{length-moved}
-use Rattle.records.specs.Writes.{stores}
-use Rattle.records.proofs.Writes.{stores-room}
 use Rattle.checker.specs.Checker.{lettersOf}
 use Rattle.checker.proofs.Fields.{field-nth, field-bytes}
 use Rattle.checker.proofs.Arms.{Away}
 use Rattle.patch.proofs.Moving.{octets, octets-drop}
-use Rattle.patch.specs.Moves.{recordsAt, Decodes, first, recordAt, Opens, fieldAt, moveField}
+use Rattle.patch.specs.Moves.{recordsAt, first, recordAt, Opens, fieldAt}
 
 also-some : (r : Record) (o : Option (List Record)) {rs : List Record} → also r o ≡ some rs → (q : List Record) × (o ≡ some q) × (rs ≡ r ∷ q)
 unfolding also

@@ -5,9 +5,6 @@ use Rattle.patch.proofs.Standing.{field-joined}
 use borrow.Author.Needs.{needs}
 use Rattle.patch.proofs.moves.field.Statement.{statement}
 use Rattle.patch.proofs.moves.field.Tie as tie
-use Rattle.patch.proofs.moves.field.Reads as reads
-use Rattle.patch.proofs.moves.field.Lts as lts
-use Rattle.checker.proofs.joined.Reads as joined-reads
 
 shared-slice-read-joined : tie.Need-shared-slice-read-joined
 shared-slice-read-joined c = search needs

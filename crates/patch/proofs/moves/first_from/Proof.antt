@@ -1,7 +1,7 @@
 -- The invariant: what is below the place and from it on is settled by the records from i on.
 -- Assumes nothing.
-use mathlib.Core.Path.{sym, ap, subst, _∙_}
-use Prim.Native.Nat.{ℕ, _+_, _-_}
+use mathlib.Core.Path.{sym, _∙_}
+use Prim.Native.Nat.{_-_}
 use native.Mathlib.Omega.{arith}
 use borrow.Author.Needs.{needs}
 use lib.ListN.{length}
@@ -10,11 +10,6 @@ use Rattle.patch.proofs.Standing.{room-all, size-six}
 use Rattle.patch.proofs.Walking.{six-there, Passes, passes-first, passes-end, passes-found, passes-again}
 use Rattle.patch.proofs.moves.first_from.Statement.{statement}
 use Rattle.patch.proofs.moves.first_from.Tie as tie
-use Rattle.patch.proofs.moves.first_from.Reads as reads
-use Rattle.patch.proofs.moves.first_from.Lts as lts
-use Rattle.checker.proofs.marked.Reads as marked-reads
-use Rattle.patch.proofs.moves.size.Reads as size-reads
-use Rattle.patch.proofs.moves.starts.Reads as starts-reads
 
 abbrev Inv-loop : tie.InvT-loop
 Inv-loop listing from place i₀ i = Passes listing from place i
@@ -42,7 +37,7 @@ marked-requires : tie.Need-marked-requires Inv-loop μ-loop
 marked-requires c κs = search needs
 
 starts-requires : tie.Need-starts-requires Inv-loop μ-loop
-starts-requires c κs = opens (c)
+starts-requires c κs = opens c
 
 returns : tie.Need-returns Inv-loop μ-loop
 returns c = passes-found (c .before .before .before .before .before .before .loop .inv) (opens (c .before .before)) (sym (c .if1 .taken) ∙ c .before .starts .ensures)

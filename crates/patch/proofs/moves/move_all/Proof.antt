@@ -1,7 +1,6 @@
 -- The invariant: the records before i are moved, and the bytes from i on are the old ones.
 -- Assumes nothing.
-use mathlib.Core.Path.{sym, ap, subst, _∙_}
-use Prim.Native.Nat.{ℕ, _+_, _-_}
+use Prim.Native.Nat.{_-_}
 use native.Mathlib.Omega.{arith}
 use borrow.Author.Needs.{needs}
 use lib.ListN.{length}
@@ -10,11 +9,6 @@ use Rattle.patch.proofs.Standing.{room-all, size-six}
 use Rattle.patch.proofs.Walking.{six-there, Moved, moved-first, moved-decodes, moved-end, moved-again}
 use Rattle.patch.proofs.moves.move_all.Statement.{statement}
 use Rattle.patch.proofs.moves.move_all.Tie as tie
-use Rattle.patch.proofs.moves.move_all.Reads as reads
-use Rattle.patch.proofs.moves.move_all.Lts as lts
-use Rattle.checker.proofs.marked.Reads as marked-reads
-use Rattle.patch.proofs.moves.move_record.Reads as move-record-reads
-use Rattle.patch.proofs.moves.size.Reads as size-reads
 
 abbrev Inv-loop : tie.InvT-loop
 Inv-loop s₀ q p i₀ s i = Moved q p s₀ s i
@@ -54,7 +48,7 @@ loop-less : tie.Need-loop-less Inv-loop μ-loop
 loop-less c = omega (arith, room-all (opens (c .before .before .before .before .before .before)), size-six (opens (c .before .before .before .before .before .before)), c .before .before .before .before .size .ensures, c .before .before .before .before .before .before .before .before .before .before .loop .inv .long)
 
 loop-again : tie.Need-loop-again Inv-loop μ-loop
-loop-again c = subst (λ (n : ℕ). Moved _ _ _ _ (c .before .before .before .before .before .before .before .before .before .before .loop .i + n)) (sym (c .before .before .before .before .size .ensures)) (moved-again (c .before .before .before .before .before .before .before .before .before .before .loop .inv) (opens (c .before .before .before .before .before .before)) (c .before .before .move-record .ensures))
+loop-again c = rw (c .before .before .before .before .size .ensures) (moved-again (c .before .before .before .before .before .before .before .before .before .before .loop .inv) (opens (c .before .before .before .before .before .before)) (c .before .before .move-record .ensures))
 
 same-length : tie.Need-same-length Inv-loop μ-loop
 same-length c = c .before .loop .inv .long

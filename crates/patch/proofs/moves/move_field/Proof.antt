@@ -12,9 +12,6 @@ use Rattle.patch.specs.Moves.{fieldAt, moveField}
 use borrow.Author.Needs.{needs}
 use Rattle.patch.proofs.moves.move_field.Statement.{statement}
 use Rattle.patch.proofs.moves.move_field.Tie as tie
-use Rattle.patch.proofs.moves.move_field.Reads as reads
-use Rattle.patch.proofs.moves.move_field.Lts as lts
-use Rattle.patch.proofs.moves.field.Reads as field-reads
 
 field-requires : tie.Need-field-requires
 field-requires c κs = search needs
@@ -60,7 +57,7 @@ same-length c = search needs
 
 returns : tie.Need-returns
 unfolding moveField field
-returns c = 
+returns c =
     let a = c .before .before .before .before .before .args in
     let e : c .before .if1 .w ≡ fieldAt (a .s .now) (a .at) + a .q - a .p = ⊎-elim (λ h. omega (arith, c .before .before .field .ensures .0)) (λ h. omega (arith, c .before .before .field .ensures .0)) (c .before .if1 .came) in
     four _ _ _ _ _ _ ∙ ap (λ (w : ℕ). stores (a .s .now) (a .at) (field w)) e

@@ -10,9 +10,6 @@ use Rattle.patch.proofs.Walking.{moved-times, moved-statement, moved-li
 use borrow.Author.Needs.{needs}
 use Rattle.patch.proofs.moves.move_record.Statement.{statement}
 use Rattle.patch.proofs.moves.move_record.Tie as tie
-use Rattle.patch.proofs.moves.move_record.Reads as reads
-use Rattle.patch.proofs.moves.move_record.Lts as lts
-use Rattle.patch.proofs.moves.move_field.Reads as move-field-reads
 
 returns : tie.Need-returns
 returns c = moved-times _ _ (c .before .before .pre .0) (c .if1 .taken)
@@ -51,7 +48,7 @@ same-length-2 : tie.Need-same-length-2
 same-length-2 c = search needs
 
 returns-3 : tie.Need-returns-3
-returns-3 c = 
+returns-3 c =
     let a = c .before .before .before .before .before .before .before .before .before .before .before .before .before .before .before .before .before .before .before .before .args in
     let step : ℕ → List ℕ → List ℕ = λ n l. moveField (a .q) (a .p) l (a .at + n) in
     c .before .before .move-field4 .ensures ∙ ap (step 22) (c .before .before .before .before .before .before .move-field3 .ensures ∙ ap (step 18) (c .before .before .before .before .before .before .before .before .before .before .before .move-field2 .ensures ∙ ap (step 6) (c .before .before .before .before .before .before .before .before .before .before .before .before .before .before .before .before .move-field .ensures))) ∙ moved-line _ _ (c .before .before .before .before .before .before .before .before .before .before .before .before .before .before .before .before .before .before .before .before .pre .0) (c .before .before .before .before .before .before .before .before .before .before .before .before .before .before .before .before .before .before .if1 .left) (c .before .before .before .before .before .before .before .before .before .before .before .before .before .if2 .left) (c .before .before .before .before .before .before .before .before .if3 .taken)
@@ -60,7 +57,7 @@ same-length-3 : tie.Need-same-length-3
 same-length-3 c = search needs
 
 returns-4 : tie.Need-returns-4
-returns-4 c = 
+returns-4 c =
     let a = c .before .before .before .before .before .before .before .before .before .before .before .before .args in
     c .before .before .before .move-field2 .ensures ∙ ap (λ (l : List ℕ). moveField (a .q) (a .p) l (a .at + 6)) (c .before .before .before .before .before .before .before .before .move-field .ensures) ∙ moved-spans _ _ (c .before .before .before .before .before .before .before .before .before .before .before .before .pre .0) (c .before .before .before .before .before .before .before .before .before .before .if1 .left) (c .before .before .before .before .before .if2 .left) (c .if3 .left)
 

@@ -7,9 +7,6 @@ use Rattle.patch.proofs.Standing.{sizeBy, size-by, other-size, room-all
 use borrow.Author.Needs.{needs}
 use Rattle.patch.proofs.moves.size.Statement.{statement}
 use Rattle.patch.proofs.moves.size.Tie as tie
-use Rattle.patch.proofs.moves.size.Reads as reads
-use Rattle.patch.proofs.moves.size.Lts as lts
-use Rattle.patch.proofs.moves.field.Reads as field-reads
 
 add-field : tie.Need-add-field
 add-field c = search needs

@@ -7,9 +7,6 @@ use Rattle.patch.proofs.Standing.{room-six, is-start, no-start}
 use borrow.Author.Needs.{needs}
 use Rattle.patch.proofs.moves.starts.Statement.{statement}
 use Rattle.patch.proofs.moves.starts.Tie as tie
-use Rattle.patch.proofs.moves.starts.Reads as reads
-use Rattle.patch.proofs.moves.starts.Lts as lts
-use Rattle.patch.proofs.moves.field.Reads as field-reads
 
 add-field : tie.Need-add-field
 add-field c = search needs
