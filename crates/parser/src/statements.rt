@@ -29,7 +29,7 @@ ghost use Rattle.names.specs.Keys as keys;
 ghost use Rattle.rules.specs.Records.{field};
 ghost use Rattle.rules.specs.Statements as rules;
 ghost use Rattle.records.specs.Writes.{Wrote};
-ghost use Rattle.parser.specs.Views.{hereOf, whole, Passes, Reads};
+ghost use Rattle.parser.specs.Views.{parserOf, hereOf, whole, Passes, Reads};
 ghost use Rattle.parser.specs.Statements as answers;
 
 // A statement with the place behind its records, or none left before the end of the source.
@@ -305,12 +305,31 @@ fn data_of(src: &[u8], out: &mut [u8], at: u32, p: Parser, width: u8) -> Parsed
     }
 }
 
-// A statement whose first token is ahead; `left` more `times` may begin.
-fn line(src: &[u8], table: &[u8; 936], out: &mut [u8], at: u32, p: Parser, left: u32) -> Parsed
+// A statement whose first token is ahead; `left` more `times` may begin. The state is handed over number by number: a struct would
+// be written by its fields and copied as a whole, which waits for the writes.
+fn line(
+    src: &[u8],
+    table: &[u8; 936],
+    out: &mut [u8],
+    at: u32,
+    pos: u32,
+    token_start: u32,
+    last_token_end: u32,
+    kind: u32,
+    value: u32,
+    left: u32,
+) -> Parsed
     requires { ⌜ (length (now src) ≤ 65536) × (keys.goodTable (now table) ≡ true) ⌝ }
-    ensures { λ r. ⌜ Reads whole (now (src .entry)) p (rules.line (now (table .entry)) (rules.times (now (table .entry)) left)) at (now (out .entry)) (now (out .exit)) r ⌝ }
+    ensures { λ r. ⌜ Reads whole (now (src .entry)) (parserOf pos «token_start» «last_token_end» kind value) (rules.line (now (table .entry)) (rules.times (now (table .entry)) left)) at (now (out .entry)) (now (out .exit)) r ⌝ }
 {
-    if p.kind != WORD {
+    let p = Parser {
+        pos: pos,
+        token_start: token_start,
+        last_token_end: last_token_end,
+        kind: kind,
+        value: value,
+    };
+    if kind != WORD {
         return Parsed::Refused(refuse_here(p, 20));
     }
     let word = text(src, p);
@@ -364,11 +383,74 @@ fn content(
     if is_line_end(kind) {
         return Parsed::Refused(refuse_here(word, 34));
     }
-    match line(src, table, out, at, p, left) {
+    match line(
+        src,
+        table,
+        out,
+        at,
+        p.pos,
+        p.token_start,
+        p.last_token_end,
+        p.kind,
+        p.value,
+        left,
+    ) {
         Parsed::Refused(r) => Parsed::Refused(r),
         Parsed::Done(q, w) => {
             let n = records::put_span(out, w, b'L', b'T', 0, 0);
             Parsed::Done(q, n)
+        }
+    }
+}
+
+// How many `times` may stand within one another.
+const MOST_TIMES: u32 = 16;
+
+// A statement, from a state that is handed over number by number.
+fn statement_from(
+    src: &[u8],
+    table: &[u8; 936],
+    out: &mut [u8],
+    at: u32,
+    pos: u32,
+    token_start: u32,
+    last_token_end: u32,
+    kind: u32,
+    value: u32,
+) -> StatementRead
+    requires { ⌜ (length (now src) ≤ 65536) × (keys.goodTable (now table) ≡ true) ⌝ }
+    ensures { λ r. ⌜ answers.ReadsStatement (now (table .entry)) (now (src .entry)) (parserOf pos «token_start» «last_token_end» kind value) at (now (out .entry)) (now (out .exit)) r ⌝ }
+{
+    let p = Parser {
+        pos: pos,
+        token_start: token_start,
+        last_token_end: last_token_end,
+        kind: kind,
+        value: value,
+    };
+    match skip_lines(src, p) {
+        Step::Stopped(r) => StatementRead::Refused(r),
+        Step::Ahead(q) => {
+            let first = q.kind;
+            if is_line_end(first) {
+                return StatementRead::NoneLeft(q);
+            }
+            let w = records::put_place(out, at, b'S', b'T', q.token_start);
+            match line(
+                src,
+                table,
+                out,
+                w,
+                q.pos,
+                q.token_start,
+                q.last_token_end,
+                q.kind,
+                q.value,
+                MOST_TIMES,
+            ) {
+                Parsed::Refused(r) => StatementRead::Refused(r),
+                Parsed::Done(after, n) => StatementRead::Read(after, n),
+            }
         }
     }
 }
@@ -378,20 +460,17 @@ pub fn statement(src: &[u8], table: &[u8; 936], out: &mut [u8], at: u32, p: Pars
     requires { ⌜ (length (now src) ≤ 65536) × (keys.goodTable (now table) ≡ true) ⌝ }
     ensures { λ r. ⌜ answers.ReadsStatement (now (table .entry)) (now (src .entry)) p at (now (out .entry)) (now (out .exit)) r ⌝ }
 {
-    match skip_lines(src, p) {
-        Step::Stopped(r) => StatementRead::Refused(r),
-        Step::Ahead(q) => {
-            let kind = q.kind;
-            if is_line_end(kind) {
-                return StatementRead::NoneLeft(q);
-            }
-            let w = records::put_place(out, at, b'S', b'T', q.token_start);
-            match line(src, table, out, w, q, 16) {
-                Parsed::Refused(r) => StatementRead::Refused(r),
-                Parsed::Done(after, n) => StatementRead::Read(after, n),
-            }
-        }
-    }
+    statement_from(
+        src,
+        table,
+        out,
+        at,
+        p.pos,
+        p.token_start,
+        p.last_token_end,
+        p.kind,
+        p.value,
+    )
 }
 
 // The first token from a place on is ahead, as behind a line feed.
@@ -417,18 +496,28 @@ pub fn statements(src: &[u8], table: &[u8; 936], out: &mut [u8], at: u32, p: Par
     ensures { λ r. ⌜ answers.ReadsStatements (now (table .entry)) (now (src .entry)) p at (now (out .entry)) (now (out .exit)) r ⌝ }
 {
     let mut q = p;
-    let mut w = at;
+    let mut place = at;
     loop {
-        match statement(src, table, out, w, q) {
+        match statement_from(
+            src,
+            table,
+            out,
+            place,
+            q.pos,
+            q.token_start,
+            q.last_token_end,
+            q.kind,
+            q.value,
+        ) {
             StatementRead::Refused(r) => {
                 return Parsed::Refused(r);
             }
             StatementRead::NoneLeft(end) => {
-                return Parsed::Done(end, w);
+                return Parsed::Done(end, place);
             }
             StatementRead::Read(after, n) => {
                 q = after;
-                w = n;
+                place = n;
             }
         }
     }

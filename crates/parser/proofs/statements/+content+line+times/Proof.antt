@@ -47,7 +47,7 @@ abbrev μ-content : Measures 3 content-kinds.ps ℕ
 μ-content κs a = 3 * a .1 .1 .1 .1 .1 .1 .0 + 2
 
 abbrev μ-line : Measures 3 line-kinds.ps ℕ
-μ-line κs a = 3 * a .1 .1 .1 .1 .1 .0 + 1
+μ-line κs a = 3 * a .1 .1 .1 .1 .1 .1 .1 .1 .1 .0 + 1
 
 abbrev μ-times : Measures 3 times-kinds.ps ℕ
 μ-times κs a = 3 * a .1 .1 .1 .1 .1 .0
@@ -131,79 +131,79 @@ line-enum-told : (t : ℕ) → line-lts.Need-enum-told (line-calls t) (line-at t
 line-enum-told t c = search needs
 
 line-constant-requires : (t : ℕ) → line-lts.Need-constant-requires (line-calls t) (line-at t) line.Post
-line-constant-requires t c κs = (c .before .before .before .before .before .before .before .before .before .before .pre .1 .0, c .before .before .before .before .before .before .if1 .left)
+line-constant-requires t c κs = (c .before .before .before .before .before .before .before .before .before .pre .1 .0, c .before .before .before .before .before .before .if1 .left)
 
 line-enum-told-2 : (t : ℕ) → line-lts.Need-enum-told-2 (line-calls t) (line-at t) line.Post
 line-enum-told-2 t c = search needs
 
 line-data-of-requires : (t : ℕ) → line-lts.Need-data-of-requires (line-calls t) (line-at t) line.Post
-line-data-of-requires t c κs = (c .before .before .before .before .before .before .before .before .before .before .pre .1 .0, c .before .before .before .before .before .before .if1 .left, omega arith, omega arith)
+line-data-of-requires t c κs = (c .before .before .before .before .before .before .before .before .before .pre .1 .0, c .before .before .before .before .before .before .if1 .left, omega arith, omega arith)
 
 line-enum-told-3 : (t : ℕ) → line-lts.Need-enum-told-3 (line-calls t) (line-at t) line.Post
 line-enum-told-3 t c = search needs
 
 line-data-of-requires-2 : (t : ℕ) → line-lts.Need-data-of-requires-2 (line-calls t) (line-at t) line.Post
-line-data-of-requires-2 t c κs = (c .before .before .before .before .before .before .before .before .before .before .pre .1 .0, c .before .before .before .before .before .before .if1 .left, omega arith, omega arith)
+line-data-of-requires-2 t c κs = (c .before .before .before .before .before .before .before .before .before .pre .1 .0, c .before .before .before .before .before .before .if1 .left, omega arith, omega arith)
 
 line-enum-told-4 : (t : ℕ) → line-lts.Need-enum-told-4 (line-calls t) (line-at t) line.Post
 line-enum-told-4 t c = search needs
 
 line-times-requires : (t : ℕ) → line-lts.Need-times-requires (line-calls t) (line-at t) line.Post
-line-times-requires t c κs = (omega (arith, c .before .before .before .before .before .before .before .before .before .before .pre .0), (c .before .before .before .before .before .before .before .before .before .before .pre .1 .0, c .before .before .before .before .before .before .before .before .before .before .pre .1 .1, c .before .before .before .before .before .before .if1 .left))
+line-times-requires t c κs = (omega (arith, c .before .before .before .before .before .before .before .before .before .pre .0), (c .before .before .before .before .before .before .before .before .before .pre .1 .0, c .before .before .before .before .before .before .before .before .before .pre .1 .1, c .before .before .before .before .before .before .if1 .left))
 
 line-enum-told-5 : (t : ℕ) → line-lts.Need-enum-told-5 (line-calls t) (line-at t) line.Post
 line-enum-told-5 t c = search needs
 
 line-operation-by-requires : (t : ℕ) → line-lts.Need-operation-by-requires (line-calls t) (line-at t) line.Post
-line-operation-by-requires t c κs = (c .before .before .before .before .before .before .before .before .before .pre .1 .1, c .before .before .before .word-key .ensures .1)
+line-operation-by-requires t c κs = (c .before .before .before .before .before .before .before .before .pre .1 .1, c .before .before .before .word-key .ensures .1)
 
 line-enum-known-operation : (t : ℕ) → line-lts.Need-enum-known-operation (line-calls t) (line-at t) line.Post
 line-enum-known-operation t c = search needs
 
 line-instruction-requires : (t : ℕ) → line-lts.Need-instruction-requires (line-calls t) (line-at t) line.Post
-line-instruction-requires t c κs = (c .before .before .before .before .before .before .before .before .before .before .before .before .before .before .pre .1 .0, c .before .before .before .before .before .before .before .before .before .before .if1 .left)
+line-instruction-requires t c κs = (c .before .before .before .before .before .before .before .before .before .before .before .before .before .pre .1 .0, c .before .before .before .before .before .before .before .before .before .before .if1 .left)
 
 line-enum-told-6 : (t : ℕ) → line-lts.Need-enum-told-6 (line-calls t) (line-at t) line.Post
 line-enum-told-6 t c = search needs
 
 line-label-requires : (t : ℕ) → line-lts.Need-label-requires (line-calls t) (line-at t) line.Post
-line-label-requires t c κs = (c .before .before .before .before .before .before .before .before .before .before .before .before .before .pre .1 .0, c .before .before .before .before .before .before .before .before .before .if1 .left)
+line-label-requires t c κs = (c .before .before .before .before .before .before .before .before .before .before .before .before .pre .1 .0, c .before .before .before .before .before .before .before .before .before .if1 .left)
 
 line-same-length : (t : ℕ) → line-lts.Need-same-length (line-calls t) (line-at t) line.Post
 line-same-length t c = search needs
 
 line-returns-2 : (t : ℕ) → line-lts.Need-returns-2 (line-calls t) (line-at t) line.Post
-line-returns-2 t c = reads-by (key-directive _ _ _ _ (c .before .before .before .before .before .before .before .before .before .if1 .left) (c .before .before .before .before .before .before .before .before .before .before .before .before .before .pre .1 .1) (c .before .before .before .before .before .before .before .before .before .before .before .before .shared-slice-known .given) (c .before .before .before .before .before .before .before .before .text .ensures) (c .before .before .before .before .before .before .before .word-key .ensures .0) (c .before .before .before .before .before .before .directive-by .ensures) (c .before .before .before .before .enum-told .given .1) tt) (c .before .before .constant .ensures)
+line-returns-2 t c = reads-by (key-directive _ _ _ _ (c .before .before .before .before .before .before .before .before .before .if1 .left) (c .before .before .before .before .before .before .before .before .before .before .before .before .pre .1 .1) (c .before .before .before .before .before .before .before .before .before .before .before .shared-slice-known .given) (c .before .before .before .before .before .before .before .before .text .ensures) (c .before .before .before .before .before .before .before .word-key .ensures .0) (c .before .before .before .before .before .before .directive-by .ensures) (c .before .before .before .before .enum-told .given .1) tt) (c .before .before .constant .ensures)
 
 line-same-length-2 : (t : ℕ) → line-lts.Need-same-length-2 (line-calls t) (line-at t) line.Post
 line-same-length-2 t c = search needs
 
 line-returns-3 : (t : ℕ) → line-lts.Need-returns-3 (line-calls t) (line-at t) line.Post
-line-returns-3 t c = reads-by (key-directive _ _ _ _ (c .before .before .before .before .before .before .before .before .before .if1 .left) (c .before .before .before .before .before .before .before .before .before .before .before .before .before .pre .1 .1) (c .before .before .before .before .before .before .before .before .before .before .before .before .shared-slice-known .given) (c .before .before .before .before .before .before .before .before .text .ensures) (c .before .before .before .before .before .before .before .word-key .ensures .0) (c .before .before .before .before .before .before .directive-by .ensures) (c .before .before .before .before .enum-told2 .given .1) tt) (c .before .before .data-of .ensures)
+line-returns-3 t c = reads-by (key-directive _ _ _ _ (c .before .before .before .before .before .before .before .before .before .if1 .left) (c .before .before .before .before .before .before .before .before .before .before .before .before .pre .1 .1) (c .before .before .before .before .before .before .before .before .before .before .before .shared-slice-known .given) (c .before .before .before .before .before .before .before .before .text .ensures) (c .before .before .before .before .before .before .before .word-key .ensures .0) (c .before .before .before .before .before .before .directive-by .ensures) (c .before .before .before .before .enum-told2 .given .1) tt) (c .before .before .data-of .ensures)
 
 line-same-length-3 : (t : ℕ) → line-lts.Need-same-length-3 (line-calls t) (line-at t) line.Post
 line-same-length-3 t c = search needs
 
 line-returns-4 : (t : ℕ) → line-lts.Need-returns-4 (line-calls t) (line-at t) line.Post
-line-returns-4 t c = reads-by (key-directive _ _ _ _ (c .before .before .before .before .before .before .before .before .before .if1 .left) (c .before .before .before .before .before .before .before .before .before .before .before .before .before .pre .1 .1) (c .before .before .before .before .before .before .before .before .before .before .before .before .shared-slice-known .given) (c .before .before .before .before .before .before .before .before .text .ensures) (c .before .before .before .before .before .before .before .word-key .ensures .0) (c .before .before .before .before .before .before .directive-by .ensures) (c .before .before .before .before .enum-told3 .given .1) tt) (c .before .before .data-of2 .ensures)
+line-returns-4 t c = reads-by (key-directive _ _ _ _ (c .before .before .before .before .before .before .before .before .before .if1 .left) (c .before .before .before .before .before .before .before .before .before .before .before .before .pre .1 .1) (c .before .before .before .before .before .before .before .before .before .before .before .shared-slice-known .given) (c .before .before .before .before .before .before .before .before .text .ensures) (c .before .before .before .before .before .before .before .word-key .ensures .0) (c .before .before .before .before .before .before .directive-by .ensures) (c .before .before .before .before .enum-told3 .given .1) tt) (c .before .before .data-of2 .ensures)
 
 line-same-length-4 : (t : ℕ) → line-lts.Need-same-length-4 (line-calls t) (line-at t) line.Post
 line-same-length-4 t c = search needs
 
 line-returns-5 : (t : ℕ) → line-lts.Need-returns-5 (line-calls t) (line-at t) line.Post
-line-returns-5 t c = reads-by (key-directive _ _ _ _ (c .before .before .before .before .before .before .before .before .before .if1 .left) (c .before .before .before .before .before .before .before .before .before .before .before .before .before .pre .1 .1) (c .before .before .before .before .before .before .before .before .before .before .before .before .shared-slice-known .given) (c .before .before .before .before .before .before .before .before .text .ensures) (c .before .before .before .before .before .before .before .word-key .ensures .0) (c .before .before .before .before .before .before .directive-by .ensures) (c .before .before .before .before .enum-told4 .given .1) tt) (c .before .before .times .ensures)
+line-returns-5 t c = reads-by (key-directive _ _ _ _ (c .before .before .before .before .before .before .before .before .before .if1 .left) (c .before .before .before .before .before .before .before .before .before .before .before .before .pre .1 .1) (c .before .before .before .before .before .before .before .before .before .before .before .shared-slice-known .given) (c .before .before .before .before .before .before .before .before .text .ensures) (c .before .before .before .before .before .before .before .word-key .ensures .0) (c .before .before .before .before .before .before .directive-by .ensures) (c .before .before .before .before .enum-told4 .given .1) tt) (c .before .before .times .ensures)
 
 line-same-length-5 : (t : ℕ) → line-lts.Need-same-length-5 (line-calls t) (line-at t) line.Post
 line-same-length-5 t c = search needs
 
 line-returns-6 : (t : ℕ) → line-lts.Need-returns-6 (line-calls t) (line-at t) line.Post
-line-returns-6 t c = reads-by (key-operation _ _ _ _ (c .before .before .before .before .before .before .before .before .before .before .before .before .before .if1 .left) (c .before .before .before .before .before .before .before .before .before .before .before .before .before .before .before .before .before .pre .1 .1) (c .before .before .before .before .before .before .before .before .before .before .before .before .before .before .before .before .shared-slice-known .given) (c .before .before .before .before .before .before .before .before .before .before .before .before .text .ensures) (c .before .before .before .before .before .before .before .before .before .before .before .word-key .ensures .0) (c .before .before .before .before .before .before .before .operation-by .ensures) (c .before .before .before .before .before .operation .given .1)) (c .before .before .instruction .ensures)
+line-returns-6 t c = reads-by (key-operation _ _ _ _ (c .before .before .before .before .before .before .before .before .before .before .before .before .before .if1 .left) (c .before .before .before .before .before .before .before .before .before .before .before .before .before .before .before .before .pre .1 .1) (c .before .before .before .before .before .before .before .before .before .before .before .before .before .before .before .shared-slice-known .given) (c .before .before .before .before .before .before .before .before .before .before .before .before .text .ensures) (c .before .before .before .before .before .before .before .before .before .before .before .word-key .ensures .0) (c .before .before .before .before .before .before .before .operation-by .ensures) (c .before .before .before .before .before .operation .given .1)) (c .before .before .instruction .ensures)
 
 line-same-length-6 : (t : ℕ) → line-lts.Need-same-length-6 (line-calls t) (line-at t) line.Post
 line-same-length-6 t c = search needs
 
 line-returns-7 : (t : ℕ) → line-lts.Need-returns-7 (line-calls t) (line-at t) line.Post
-line-returns-7 t c = reads-by (key-label _ _ _ _ (c .before .before .before .before .before .before .before .before .before .before .before .before .if1 .left) (c .before .before .before .before .before .before .before .before .before .before .before .before .before .before .before .before .pre .1 .1) (c .before .before .before .before .before .before .before .before .before .before .before .before .before .before .before .shared-slice-known .given) (c .before .before .before .before .before .before .before .before .before .before .before .text .ensures) (c .before .before .before .before .before .before .before .before .before .before .word-key .ensures .0) (c .before .before .before .before .before .before .operation-by .ensures) (c .before .before .before .before .enum-told6 .given .1) (c .before .before .before .before .before .before .before .before .before .directive-by .ensures) (c .before .before .before .before .before .before .before .enum-told5 .given .1)) (c .before .before .label .ensures)
+line-returns-7 t c = reads-by (key-label _ _ _ _ (c .before .before .before .before .before .before .before .before .before .before .before .before .if1 .left) (c .before .before .before .before .before .before .before .before .before .before .before .before .before .before .before .pre .1 .1) (c .before .before .before .before .before .before .before .before .before .before .before .before .before .before .shared-slice-known .given) (c .before .before .before .before .before .before .before .before .before .before .before .text .ensures) (c .before .before .before .before .before .before .before .before .before .before .word-key .ensures .0) (c .before .before .before .before .before .before .operation-by .ensures) (c .before .before .before .before .enum-told6 .given .1) (c .before .before .before .before .before .before .before .before .before .directive-by .ensures) (c .before .before .before .before .before .before .before .enum-told5 .given .1)) (c .before .before .label .ensures)
 
 abbrev times-calls : ℕ → times-lts.Claims
 times-calls t =
