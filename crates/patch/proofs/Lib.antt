@@ -1,2 +1,4 @@
+pub mod LineLaws
+pub mod Moving
 pub mod Placing
 pub mod Rereading
