@@ -1,25 +1,19 @@
 -- 6 and 4, and the bytes that the two buffers hold afterwards: those kept of the old listing, the new line's, and those moved.
 -- Assumes nothing.
-use Prim.Native.Nat.{ℕ, zero, suc, _+_, _-_, _≤_, _<_}
-use mathlib.Core.Path.{_≡_, refl, sym, ap, _∙_}
-use mathlib.Core.Bool.{Bool, true, false}
-use mathlib.Core.List.{List, [], _∷_, _++_, append-assoc, append-nil}
-use mathlib.Core.Option.{Option, none, some}
+use Prim.Native.Nat.{ℕ, _+_, _-_, _≤_, _<_}
+use mathlib.Core.Path.{_≡_, sym, ap, _∙_}
+use mathlib.Core.List.{List, [], _++_, append-assoc, append-nil}
 use native.Mathlib.Omega.{arith}
-use native.Mathlib.Nat.{zero-add, le-refl}
+use native.Mathlib.Nat.{zero-add}
 use borrow.Author.Tests.{lt-ltb, le-ltb}
-use lib.ListN.{length, take, drop, getD, length-append, length-drop, drop-of-length-le}
+use lib.ListN.{length, take, drop, length-append, length-drop, drop-of-length-le}
 use lib.Seq.{take-at, drop-at, take-all, drop-drop, drop-append-add, length-take-le}
-use Rattle.lexer.specs.Text.{if_then_else_, maybe}
 use Rattle.rules.specs.Records.{Record, listing}
 use Rattle.rules.specs.Reader.{Refusal as Cause, nowhere}
 use Rattle.rules.specs.Calls.{Result, gives, refuses, unless, inRoom, overwrite, leaves}
-use Rattle.rules.specs.Decode.{decode}
-use Rattle.rules.specs.Patch.{statementFrom, recordsBelow, recordsOn, Edit, exchanged, placedIn, patchSource, patchListing}
+use Rattle.rules.specs.Patch.{recordsBelow, recordsOn, Edit, exchanged, placedIn, patchSource, patchListing}
 use Rattle.rules.proofs.Records.{listing-append}
-use Rattle.rules.proofs.PatchBytes.{kept-bytes, listing-moved}
-use Rattle.rules.proofs.Reencode.{Octets, reencoded}
-use Rattle.rules.proofs.Listing.{from-mono}
+use Rattle.rules.proofs.Reencode.{Octets}
 use Rattle.records.specs.Writes.{stores}
 use Rattle.records.proofs.Writes.{stores-room}
 use Rattle.reader.proofs.FullReads.{stored-over}
@@ -29,6 +23,7 @@ use Rattle.patch.specs.declared.PatchAnswer.{PatchAnswer}
 use Rattle.patch.specs.declared.PatchAnswer.the-variants.{Written, Refused}
 use Rattle.patch.specs.Moves.{recordsAt, Decodes, First, movedBytes}
 use Rattle.patch.specs.Patched.{patchAnswer, Patches}
+use Rattle.patch.proofs.Moving.{moved-length, rest-length, first-decodes, first-within, first-kept, first-twice}
 
 -- A refusal leaves both buffers.
 pub refused : {e : Result Edit} {s l : List ℕ} {r : Refusal} (c : Cause) → e ≡ refuses c → r ≡ numbersOf c → Patches e s s l l (Refused r)
@@ -56,28 +51,6 @@ module _ (s l ed : List ℕ) (w : List Record) where
     listing = rw (le-ltb (length s) (length ed) h, le-ltb (length l) (length (listing w)) i) f;
   }
 
--- a slice's bytes, each known by its place
-pub octets : (s : List ℕ) → ((i : ℕ) → getD s i 0 < 256) → Octets s
-octets [] h = tt
-octets (c ∷ cs) h = (h 0, octets cs (λ i. h (suc i)))
-
--- The first statement from b on is sought from the first with a place of a on.
-on-on : (a b : ℕ) → a ≤ b → (rs : List Record) → recordsOn b (recordsOn a rs) ≡ recordsOn b rs
-unfolding recordsOn
-on-on a b h [] = refl
-on-on a b h (r ∷ rs) = go (statementFrom a r) refl (on-on a b h rs)
-  where
-    go : (t : Bool) → statementFrom a r ≡ t → recordsOn b (recordsOn a rs) ≡ recordsOn b rs → recordsOn b (if t then (r ∷ rs) else (recordsOn a rs)) ≡ recordsOn b (r ∷ rs)
-    go true e k = refl
-    go false e k = k ∙ sym (rw (from-mono a b h r e))
-
-at-is : (l : List ℕ) (at : ℕ) {rs : List Record} → decode (drop at l) ≡ some rs → recordsAt l at ≡ rs
-unfolding recordsAt
-at-is l at e = rw e
-
-pub decodes-at : (l : List ℕ) {from a r : ℕ} → First l from a r → Decodes l r
-decodes-at l {r = r} f = record { so = f .on ∙ ap some (sym (at-is l r (f .on))) }
-
 -- The parts of an old listing: the bytes up to `below` are kept, those from `on` on moved.
 pub record Parts (l : List ℕ) (a p below on : ℕ) : Type 0 where
   pub kept : take below l ≡ listing (recordsBelow a (recordsAt l 0))
@@ -89,20 +62,15 @@ pub record Parts (l : List ℕ) (a p below on : ℕ) : Type 0 where
 
 pub parts : {l : List ℕ} {a p below on : ℕ} → Octets l → Decodes l 0 → First l 0 a below → First l below (a + p) on → Parts l a p below on
 parts {l} {a} {p} {below} {on} o d f g =
-    let rs : List Record = recordsAt l 0 in
-    let k : List ℕ = listing (recordsBelow a rs) in
-    let n : below ≡ length k = f .below ∙ zero-add (length k) in
-    let w : l ≡ k ++ listing (recordsOn a rs) = sym (reencoded l rs o (d .so)) ∙ kept-bytes a rs in
-    let m : recordsAt l below ≡ recordsOn a rs = at-is l below (f .on) in
-    let u : recordsOn (a + p) (recordsAt l below) ≡ recordsOn (a + p) rs = ap (recordsOn (a + p)) m ∙ on-on a (a + p) (omega arith) rs in
-    let v = ap length (kept-bytes (a + p) (recordsAt l below)) ∙ length-append (listing (recordsBelow (a + p) (recordsAt l below))) (listing (recordsOn (a + p) (recordsAt l below))) in
+    let e : recordsAt l on ≡ recordsOn (a + p) (recordsAt l 0) = first-twice (omega arith) f g in
+    let i : below ≤ length l = first-within f o d (omega arith) in
     record {
-      kept = ap (take below) w ∙ take-at k (listing (recordsOn a rs)) below (sym n);
-      first = n;
-      rest = at-is l on (g .on) ∙ u;
-      decodes = decodes-at l g;
+      kept = first-kept o d f;
+      first = f .below ∙ zero-add _;
+      rest = e;
+      decodes = first-decodes g;
       order = omega (arith, g .below);
-      all = omega (arith, g .below, v, ap length w ∙ length-append k (listing (recordsOn a rs)), ap (λ (q : List Record). length (listing q)) m, ap (λ (q : List Record). length (listing q)) u);
+      all = omega (arith, first-within g o (first-decodes f) i, rest-length o (first-decodes g), ap (λ (q : List Record). length (listing q)) e);
     }
 
 -- The bytes of a part, then those before it, then those behind.
@@ -131,10 +99,6 @@ assembled l k w m {b} {e} {part} {l₂} {l₃} i j h f g q =
 exchanged-bytes : (a p q : ℕ) (rs w : List Record) → listing (exchanged a p q rs w) ≡ listing (recordsBelow a rs) ++ (listing w ++ movedBytes q p (recordsOn (a + p) rs))
 unfolding exchanged movedBytes
 exchanged-bytes a p q rs w = listing-append (recordsBelow a rs) _ ∙ ap (λ (l : List ℕ). listing (recordsBelow a rs) ++ l) (listing-append w _)
-
-moved-length : (q p : ℕ) (rs : List Record) → length (movedBytes q p rs) ≡ length (listing rs)
-unfolding movedBytes
-moved-length q p rs = listing-moved _ rs
 
 module _ {old : List ℕ} {a p below on : ℕ} (P : Parts old a p below on) (q : ℕ) (w : List Record) where
   abbrev rs : List Record

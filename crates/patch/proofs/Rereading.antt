@@ -35,21 +35,18 @@ use Rattle.parser.proofs.StatementsCalls.{full-read, full-refused, full-not-sta
 use Rattle.patch.specs.declared.PatchAnswer.{PatchAnswer}
 use Rattle.patch.specs.declared.PatchAnswer.the-variants.{Written, Refused}
 use Rattle.patch.specs.Patched.{Patches, acceptedOf, Measured}
+use Rattle.patch.proofs.LineLaws.{line-length}
 use Rattle.patch.proofs.Placing.{refused, same-edit}
 
 -- A line by its places.
 module _ (old : List ℕ) (a : ℕ) where
-  pub length-line : length (lineAt old a) ≡ run inComment (drop a old)
-  unfolding lineAt
-  length-line = length-take-le (run inComment (drop a old)) (drop a old) (run-le inComment (drop a old))
-
   -- it ends within
   pub end-within : a ≤ length old → a + length (lineAt old a) ≤ length old
-  end-within h = omega (arith, length-line, run-le inComment (drop a old), length-drop a old)
+  end-within h = omega (arith, line-length old a h, run-le inComment (drop a old), length-drop a old)
 
-  module _ {end : ℕ} (e : end ≡ a + length (lineAt old a)) where
+  module _ (h : a ≤ length old) {end : ℕ} (e : end ≡ a + length (lineAt old a)) where
     end-is : end - a ≡ run inComment (drop a old)
-    end-is = omega (arith, length-line)
+    end-is = omega (arith, line-length old a h)
 
     pub line-slice : take (end - a) (drop a old) ≡ lineAt old a
     unfolding lineAt
@@ -57,14 +54,14 @@ module _ (old : List ℕ) (a : ℕ) where
 
     behind-is : drop end old ≡ behind old a
     unfolding behind
-    behind-is = ap (λ (n : ℕ). drop n old) (e ∙ ap (λ (n : ℕ). a + n) length-line) ∙ sym (drop-drop (run inComment (drop a old)) a old)
+    behind-is = ap (λ (n : ℕ). drop n old) (e ∙ ap (λ (n : ℕ). a + n) (line-length old a h)) ∙ sym (drop-drop (run inComment (drop a old)) a old)
 
     pub edited-is : (new : List ℕ) → take a old ++ (new ++ drop end old) ≡ edited old a new
     unfolding edited above
     edited-is new = ap (λ (l : List ℕ). take a old ++ (new ++ l)) behind-is
 
-    pub edited-length : (new : List ℕ) → a ≤ length old → length old - (end - a) + length new ≡ length (edited old a new)
-    edited-length new h =
+    pub edited-length : (new : List ℕ) → length old - (end - a) + length new ≡ length (edited old a new)
+    edited-length new =
         let z = ap length (sym (edited-is new)) ∙ length-append (take a old) (new ++ drop end old) in
         omega (arith, z, length-append new (drop end old), length-drop end old, length-take-le a old h, end-within h)
 
@@ -90,8 +87,8 @@ module _ (old : List ℕ) (a : ℕ) (new : List ℕ) (h : a ≤ length old) wher
     pub holds : a ≤ cut
     pub line : drop a (take cut (edited old a new)) ≡ new ++ take 1 (behind old a)
 
-  line-from : {cut : ℕ} {r : List ℕ} → take cut (edited old a new) ≡ above old a ++ (new ++ r) → drop a (take cut (edited old a new)) ≡ new ++ r
-  line-from {r = r} e = ap (drop a) e ∙ drop-at (above old a) (new ++ r) a above-length
+  line-from : (cut : ℕ) (r : List ℕ) → take cut (edited old a new) ≡ above old a ++ (new ++ r) → drop a (take cut (edited old a new)) ≡ new ++ r
+  line-from cut r e = ap (drop a) e ∙ drop-at (above old a) (new ++ r) a above-length
 
   -- the end of the source, or a line feed
   pub cut-end : {cut : ℕ} → cut ≡ a + length new → length (edited old a new) ≤ cut → Cut cut
@@ -99,10 +96,10 @@ module _ (old : List ℕ) (a : ℕ) (new : List ℕ) (h : a ≤ length old) wher
       let z : length (behind old a) ≤ 0 = omega (arith, edited-size) in
       let n : a + (length new + 1) ≡ suc cut = omega arith in
       let t : take cut (edited old a new) ≡ take (a + (length new + 1)) (edited old a new) = take-all cut (edited old a new) k ∙ sym (take-all (a + (length new + 1)) (edited old a new) (omega arith)) in
-      record { within = omega (arith, edited-size); holds = omega arith; line = line-from (t ∙ cut-at 1) }
+      record { within = omega (arith, edited-size); holds = omega arith; line = line-from cut (take 1 (behind old a)) (t ∙ cut-at 1) }
 
   pub cut-feed : {cut : ℕ} → cut ≡ a + length new + 1 → a + length new < length (edited old a new) → Cut cut
-  cut-feed {cut} e k = record { within = omega arith; holds = omega arith; line = line-from (ap (λ (n : ℕ). take n (edited old a new)) (e ∙ omega arith) ∙ cut-at 1) }
+  cut-feed {cut} e k = record { within = omega arith; holds = omega arith; line = line-from cut (take 1 (behind old a)) (ap (λ (n : ℕ). take n (edited old a new)) (e ∙ omega arith) ∙ cut-at 1) }
 
 -- small bytes stay so
 foreign-take : (p n : ℕ) (s : List ℕ) → foreign p s ≡ none → foreign p (take n s) ≡ none
@@ -136,10 +133,15 @@ module _ (s : List ℕ) (place : ℕ) where
     pub never-denied : {n : ℕ} {r : Refusal} → Measured s place p n → ReadsStatements operations s p 0 l l′ (parsed.Refused r) → ⊥
     never-denied m h = let (c, e, _) = denied (m .started) h in never-both (sym (m .reads) ∙ e)
 
-    module _ (short : length s ≤ 65536) (plain : foreignPlace s ≡ length s) (within : place ≤ length s) {q : Parser} {n : ℕ} where
-      little : (v : List Record) → reading ≡ accepted v → length (listing v) ≤ limit
-      little v e = omega (arith, bounded-from operations proper place (drop place s) (small-parts place s (small s plain) .1) v e, length-drop place s)
+  module _ (short : length s ≤ 65536) (plain : foreignPlace s ≡ length s) (within : place ≤ length s) where
+    little : (v : List Record) → reading ≡ accepted v → length (listing v) ≤ limit
+    little v e = omega (arith, bounded-from operations proper place (drop place s) (small-parts place s (small s plain) .1) v e, length-drop place s)
 
+    -- of few bytes
+    pub measure-small : {p : Parser} {m : ℕ} → Measured s place p m → m ≤ limit
+    measure-small b = omega (arith, b .size, little (acceptedOf reading) (b .reads))
+
+    module _ {p q : Parser} {l l′ : List ℕ} {n : ℕ} where
       pub measured : Started s place p → ReadsStatements operations s p 0 l l′ (parsed.Done q n) → Measured s place p n
       measured b h =
           let f = full-read operations s place b h in
@@ -158,16 +160,12 @@ module _ (s : List ℕ) (place : ℕ) where
           let c : length (listing (acceptedOf reading)) ≡ length (listing (f .v)) = ap (λ (v : List Record). length (listing v)) k in
           f .wrote .wrote (omega (arith, little (f .v) (f .reads))) (omega (arith, b .size)) ∙ ap (λ (v : List Record). stores l 0 (listing v)) (sym k)
 
-      -- of few bytes
-      pub measure-small : {m : ℕ} → Measured s place p m → m ≤ limit
-      measure-small b = omega (arith, b .size, little (acceptedOf reading) (b .reads))
-
 -- What the reading makes of the patch.
 module _ (old : List ℕ) (rs : List Record) (a : ℕ) (new s l : List ℕ) where
   abbrev newLine : List ℕ
   newLine = new ++ take 1 (behind old a)
 
-  module _ {line : List ℕ} (e : drop a line ≡ newLine) where
+  module _ (line : List ℕ) (e : drop a line ≡ newLine) where
     pub line-denied : {r : Refusal} → (c : Cause) × (readFrom operations a (drop a line) ≡ refusal c) × (r ≡ numbersOf c) → Patches (reread old rs a new (length s) (length l) (readFrom operations a newLine)) s s l l (Refused r)
     unfolding reread
     line-denied (c, f, k) = refused c (rw (ap (readFrom operations a) (sym e) ∙ f)) k
