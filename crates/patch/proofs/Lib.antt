@@ -1,3 +1,4 @@
+pub mod Exchanging
 pub mod LineLaws
 pub mod Moving
 pub mod Placing

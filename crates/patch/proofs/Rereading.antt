@@ -99,7 +99,9 @@ module _ (old : List ℕ) (a : ℕ) (new : List ℕ) (h : a ≤ length old) wher
       record { within = omega (arith, edited-size); holds = omega arith; line = line-from cut (take 1 (behind old a)) (t ∙ cut-at 1) }
 
   pub cut-feed : {cut : ℕ} → cut ≡ a + length new + 1 → a + length new < length (edited old a new) → Cut cut
-  cut-feed {cut} e k = record { within = omega arith; holds = omega arith; line = line-from cut (take 1 (behind old a)) (ap (λ (n : ℕ). take n (edited old a new)) (e ∙ omega arith) ∙ cut-at 1) }
+  cut-feed {cut} e k =
+      let n : cut ≡ a + (length new + 1) = omega arith in
+      record { within = omega arith; holds = omega arith; line = line-from cut (take 1 (behind old a)) (ap (λ (n : ℕ). take n (edited old a new)) n ∙ cut-at 1) }
 
 -- small bytes stay so
 foreign-take : (p n : ℕ) (s : List ℕ) → foreign p s ≡ none → foreign p (take n s) ≡ none
