@@ -1,10 +1,11 @@
 -- The whole patch by its steps: 42, 43, 1, 2, 41, 40, and what the rest gives; and demand 3 for it.
 -- Assumes nothing.
-use Prim.Native.Nat.{ℕ, _≤_, _<_}
+use Prim.Native.Nat.{ℕ, _+_, _-_, _≤_, _<_}
 use mathlib.Core.Path.{_≡_, refl, sym, ap, _∙_}
 use mathlib.Core.Bool.{Bool, true, false, _||_, true≢false}
-use mathlib.Core.List.{List, _++_}
+use mathlib.Core.List.{List, [], _++_}
 use mathlib.Core.Option.{Option, none, some}
+use native.Mathlib.Omega.{arith}
 use borrow.Author.Tests.{lt-ltb, le-ltb}
 use lib.Dec.{ltb}
 use lib.ListN.{length, take, drop}
@@ -18,7 +19,7 @@ use Rattle.rules.specs.Statements.{readFrom}
 use Rattle.rules.specs.Calls.{Result, gives, refuses, unless, mostBytes, tooLong, ascii, lent, overwrite, leaves, fullCall, fullBuffer}
 use Rattle.rules.specs.Decode.{decode}
 use Rattle.rules.specs.WellFormed.{wellFormed}
-use Rattle.rules.specs.Patch.{beginsLine, behind, edited, openLine, Edit, reread, patched, patch, patchSource, patchListing}
+use Rattle.rules.specs.Patch.{beginsLine, above, lineAt, behind, edited, linesFrom, nearest, leavesOpen, openLine, Edit, reread, patched, patch, patchSource, patchListing}
 use Rattle.rules.proofs.Table.{proper}
 use Rattle.rules.proofs.Demand3.{edits, demand-3}
 use Rattle.checker.specs.Checker.{wellFormedBytes}
@@ -34,6 +35,7 @@ use Rattle.patch.specs.Moves.{recordsAt, Decodes}
 use Rattle.patch.specs.Patched.{patchAnswer, Patches, asPatch, AsFullRead}
 use Rattle.patch.proofs.LineLaws.{feed-among}
 use Rattle.patch.proofs.Placing.{refused}
+use Rattle.patch.proofs.Rereading.{line-slice, edited-is}
 
 -- DEMAND 3, from what the rules say of it.
 module _ (ed : List ℕ) where
@@ -61,6 +63,12 @@ as-full-read {old} {bytes} {a} {new} {s} {l = l} p = record {
       let k : patch operations old bytes a new (length s) (length l) ≡ edits ed x = ap (λ (b : List ℕ). patch operations old b a new (length s) (length l)) e ∙ demand-3 operations proper old w a new room (length s) (length l) acc h f o i in
       (p .answer ∙ ap patchAnswer k ∙ answers ed x, p .source ∙ ap (λ (y : Result Edit). patchSource y s) k ∙ sources ed x s, p .listing ∙ ap (λ (y : Result Edit). patchListing y l) k ∙ listings ed x l);
 }
+
+-- The clauses of the contract.
+pub clauses : {old bytes : List ℕ} {a : ℕ} {new s s′ l l′ : List ℕ} {r : PatchAnswer} → Patches (patch operations old bytes a new (length s) (length l)) s s′ l l′ r
+    → (r ≡ patchAnswer (patch operations old bytes a new (length s) (length l))) × ((s′ ≡ patchSource (patch operations old bytes a new (length s) (length l)) s) × ((l′ ≡ patchListing (patch operations old bytes a new (length s) (length l)) l)
+    × AsFullRead old bytes a new s s′ l l′ r))
+clauses p = (p .answer, (p .source, (p .listing, as-full-read p)))
 
 -- 42, 43 and 1, and none of them.
 module _ (old bytes : List ℕ) (a : ℕ) (new s l : List ℕ) where
@@ -102,16 +110,37 @@ module _ (ed : List ℕ) (short : length ed ≤ 65536) (x : Result Edit) where
   unfolding lent unless tooLong mostBytes
   lent-ascii = rw (le-ltb 65536 (length ed) short)
 
-  pub foreign-denied : {r : Refusal} → lending.Refused r ≡ lentOf ed → {s l : List ℕ} → Patches (ascii ed x) s s l l (Refused r)
+  foreign-denied : {r : Refusal} {s l : List ℕ} → lending.Refused r ≡ lentOf ed → Patches (ascii ed x) s s l l (Refused r)
   foreign-denied e = let (c, f, k) = lent-refused ed x e in refused c (sym lent-ascii ∙ f) k
 
-  pub plain-ascii : lending.Accepted ≡ lentOf ed → (ascii ed x ≡ x) × (foreignPlace ed ≡ length ed)
+  plain-ascii : lending.Accepted ≡ lentOf ed → (ascii ed x ≡ x) × (foreignPlace ed ≡ length ed)
   plain-ascii e = let (i, j, k) = lent-accepted ed x e in (sym lent-ascii ∙ i, k)
 
 
-pub taken-edit : {n : ℕ} (b z : List ℕ) → n ≡ length b → take n (overwrite b z) ≡ b
-unfolding overwrite
-taken-edit {n} b z e = take-at b (drop (length b) z) n (sym e)
+-- the edited source at the head of a room that is large enough
+module _ (old : List ℕ) (a : ℕ) (new : List ℕ) (h : a ≤ length old) (room : List ℕ) {end n : ℕ} {room′ : List ℕ} (e : end ≡ a + length (lineAt old a)) (k : n ≡ length (edited old a new)) (short : n ≤ 65536)
+    (f : room′ ≡ overwrite (take a old ++ (new ++ drop end old)) room) where
+  pub edit-taken : take (n - 0) room′ ≡ edited old a new
+  unfolding overwrite
+  edit-taken =
+      let z : n - 0 ≡ n = omega arith in
+      ap (λ (m : ℕ). take m room′) z ∙ ap (take n) (f ∙ ap (λ (b : List ℕ). overwrite b room) (edited-is old a h e new)) ∙ take-at (edited old a new) (drop (length (edited old a new)) room) n (sym k)
+
+  pub edit-short : length (take (n - 0) room′) ≤ 65536
+  edit-short = omega (arith, ap length edit-taken)
+
+  edited-short : length (edited old a new) ≤ 65536
+  edited-short = omega arith
+
+  pub edit-denied : {r : Refusal} (x : Result Edit) (s l : List ℕ) → lending.Refused r ≡ lentOf (take (n - 0) room′) → Patches (ascii (edited old a new) x) s s l l (Refused r)
+  edit-denied x s l d = foreign-denied (edited old a new) edited-short x (d ∙ ap lentOf edit-taken)
+
+  module _ (d : lending.Accepted ≡ lentOf (take (n - 0) room′)) where
+    pub edit-plain : foreignPlace (take (n - 0) room′) ≡ length (take (n - 0) room′)
+    edit-plain = rw edit-taken (plain-ascii (edited old a new) edited-short (refuses (nowhere 0)) (d ∙ ap lentOf edit-taken) .1)
+
+    pub edit-ascii : (x : Result Edit) → ascii (edited old a new) x ≡ x
+    edit-ascii x = plain-ascii (edited old a new) edited-short x (d ∙ ap lentOf edit-taken) .0
 
 -- 41 and 40, and neither.
 module _ (old bytes : List ℕ) (a : ℕ) (new s l : List ℕ) where
@@ -147,3 +176,21 @@ module _ (old bytes : List ℕ) (a : ℕ) (new s l : List ℕ) where
     pub is-closed : openLine operations old a new ≡ false → inner (decode bytes) ≡ reread old (recordsAt bytes 0) a new (length s) (length l) (readFrom operations a (new ++ take 1 (behind old a)))
     unfolding unless
     is-closed h = F .so ∙ rw h
+
+-- 40 by its three lines.
+module _ (old : List ℕ) (a : ℕ) (new : List ℕ) (h : a ≤ length old) {end : ℕ} (e : end ≡ a + length (lineAt old a)) {b : Bool} (i : b ≡ leavesOpen operations (take (end - a) (drop a old))) where
+  old-is : leavesOpen operations (lineAt old a) ≡ b
+  old-is = ap (leavesOpen operations) (sym (line-slice old a h e)) ∙ sym i
+
+  pub old-open : b ≡ true → true ≡ openLine operations old a new
+  unfolding openLine
+  old-open k = rw (old-is ∙ k)
+
+  module _ (k : b ≡ false) {c : Bool} (m : c ≡ leavesOpen operations new) where
+    pub new-open : c ≡ true → true ≡ openLine operations old a new
+    unfolding openLine
+    new-open n = rw (old-is ∙ k, sym m ∙ n)
+
+    pub near-open : c ≡ false → {d : Bool} → d ≡ maybe (nearest (linesFrom [] (above old a))) false (leavesOpen operations) → d ≡ openLine operations old a new
+    unfolding openLine
+    near-open n d = rw (old-is ∙ k, sym m ∙ n) d

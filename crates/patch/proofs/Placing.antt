@@ -109,13 +109,18 @@ module _ {old : List ℕ} {a p below on : ℕ} (P : Parts old a p below on) (q :
       let e = ap length (exchanged-bytes a p q rs w) ∙ length-append (listing (recordsBelow a rs)) (listing w ++ movedBytes q p (recordsOn (a + p) rs)) in
       omega (arith, e, length-append (listing w) (movedBytes q p (recordsOn (a + p) rs)), moved-length q p (recordsOn (a + p) rs), P .first, P .all)
 
+  pub no-room : (s l ed : List ℕ) {r : Refusal} {n : ℕ} → n ≡ length (listing w) → length ed ≤ length s → length l < below + n + (length old - on) → r ≡ numbersOf (nowhere 4)
+      → Patches (placedIn (length s) (length l) ed (exchanged a p q rs w)) s s l l (Refused r)
+  no-room s l ed k h i e = no-listing s l ed (exchanged a p q rs w) h (omega (arith, size-is k)) e
+
   pub written : (s l ed : List ℕ) {s′ l′ l₂ part : List ℕ} {n : ℕ} → n ≡ length (listing w) → length ed ≤ length s → below + n + (length old - on) ≤ length l → s′ ≡ stores s 0 ed
-      → part ≡ stores (take (length l - below) (drop below l)) 0 (listing w) → l₂ ≡ stores (take below l ++ (part ++ drop (length l - below) (drop below l))) 0 (take below old)
+      → part ≡ stores (take (length l - below) (drop below l)) 0 (listing w) → l₂ ≡ stores (take below l ++ (part ++ drop (length l - below) (drop below l))) 0 (take (below - 0) old)
       → l′ ≡ stores l₂ (below + n) (movedBytes q p (recordsAt old on))
       → Patches (placedIn (length s) (length l) ed (exchanged a p q rs w)) s s′ l l′ (Written (length ed) (below + n + (length old - on)))
-  written s l ed {part = part} {n = n} k h i e f g j =
+  written s l ed {l₂ = l₂} {part = part} {n = n} k h i e f g j =
       let m : List ℕ = movedBytes q p (recordsOn (a + p) rs) in
       let z = moved-length q p (recordsOn (a + p) rs) in
+      let b : below - 0 ≡ below = omega arith in
       let o = assembled l (listing (recordsBelow a rs)) (listing w) m (P .first) (ap (λ (x : ℕ). below + x) k) (omega (arith, P .all)) f
-          (g ∙ ap (stores (take below l ++ (part ++ drop (length l - below) (drop below l))) 0) (P .kept)) (j ∙ ap (λ (r : List Record). stores _ (below + n) (movedBytes q p r)) (P .rest)) in
+          (g ∙ ap (stores (take below l ++ (part ++ drop (length l - below) (drop below l))) 0) (ap (λ (x : ℕ). take x old) b ∙ P .kept)) (j ∙ ap (λ (r : List Record). stores l₂ (below + n) (movedBytes q p r)) (P .rest)) in
       placed s l ed (exchanged a p q rs w) h (omega (arith, size-is k)) (e ∙ stored-over s ed h) (o ∙ ap (λ (b : List ℕ). overwrite b l) (sym (exchanged-bytes a p q rs w))) (size-is k)

@@ -1,15 +1,15 @@
 -- The new line read in its place: what stands of the edited source is cut off behind its line feed.
 -- Assumes nothing.
 use Prim.Native.Nat.{ℕ, zero, suc, _+_, _-_, _≤_, _<_}
-use mathlib.Core.Path.{_≡_, refl, sym, ap, _∙_}
+use mathlib.Core.Path.{_≡_, refl, sym, ap, subst, _∙_}
 use mathlib.Core.Bool.{Bool, true, false}
-use mathlib.Core.List.{List, [], _∷_, _++_, append-nil}
+use mathlib.Core.List.{List, [], _∷_, _++_}
 use mathlib.Core.Option.{Option, none, some}
 use native.Mathlib.Omega.{arith}
 use native.Mathlib.Nat.{zero-add}
 use lib.Dec.{ltb}
-use lib.ListN.{length, take, drop, length-append, length-drop, drop-of-length-le}
-use lib.Seq.{take-at, drop-at, take-all, take-nil, take-append-add, drop-append-le, drop-append-seam, length-take-le, drop-drop}
+use lib.ListN.{length, take, drop, length-append, length-take, length-drop}
+use lib.Seq.{drop-at, take-all, take-append-add, length-take-le, drop-drop}
 use Rattle.lexer.specs.Text.{if_then_else_, maybe, run}
 use Rattle.lexer.specs.Tokens.{inComment}
 use Rattle.lexer.proofs.Runs.{run-le}
@@ -17,7 +17,7 @@ use Rattle.names.specs.Table.{operations}
 use Rattle.rules.specs.Records.{Record, listing}
 use Rattle.rules.specs.Reader.{Refusal as Cause}
 use Rattle.rules.specs.Statements.{Outcome, accepted, refusal, readFrom}
-use Rattle.rules.specs.Calls.{Result, gives, refuses, foreign, overwrite}
+use Rattle.rules.specs.Calls.{Result, gives, refuses, foreign}
 use Rattle.rules.specs.Patch.{above, lineAt, behind, edited, Edit, exchanged, placedIn, reread}
 use Rattle.rules.proofs.Shape.{Small, small-parts}
 use Rattle.rules.proofs.Table.{proper}
@@ -34,6 +34,7 @@ use Rattle.parser.specs.Statements.{Started, NotStarted, ReadsStatements}
 use Rattle.parser.proofs.StatementsCalls.{full-read, full-refused, full-not-started}
 use Rattle.patch.specs.declared.PatchAnswer.{PatchAnswer}
 use Rattle.patch.specs.declared.PatchAnswer.the-variants.{Written, Refused}
+use Rattle.patch.specs.Moves.{First}
 use Rattle.patch.specs.Patched.{Patches, acceptedOf, Measured}
 use Rattle.patch.proofs.LineLaws.{line-length}
 use Rattle.patch.proofs.Placing.{refused, same-edit}
@@ -82,26 +83,38 @@ module _ (old : List ℕ) (a : ℕ) (new : List ℕ) (h : a ≤ length old) wher
   unfolding edited
   edited-size = length-append (above old a) (new ++ behind old a) ∙ omega (arith, above-length, length-append new (behind old a))
 
-  pub record Cut (cut : ℕ) : Type 0 where
-    pub within : cut ≤ length (edited old a new)
-    pub holds : a ≤ cut
-    pub line : drop a (take cut (edited old a new)) ≡ new ++ take 1 (behind old a)
+  -- of the edited source, as the code has it
+  module _ {ed : List ℕ} (e : ed ≡ edited old a new) where
+    pub new-within : length new ≤ length ed
+    new-within = omega (arith, ap length e, edited-size)
 
-  line-from : (cut : ℕ) (r : List ℕ) → take cut (edited old a new) ≡ above old a ++ (new ++ r) → drop a (take cut (edited old a new)) ≡ new ++ r
-  line-from cut r e = ap (drop a) e ∙ drop-at (above old a) (new ++ r) a above-length
+    pub record Cut (cut : ℕ) : Type 0 where
+      pub within : cut ≤ length ed
+      pub place : a ≤ length (take (cut - 0) ed)
+      pub line : drop a (take (cut - 0) ed) ≡ new ++ take 1 (behind old a)
 
-  -- the end of the source, or a line feed
-  pub cut-end : {cut : ℕ} → cut ≡ a + length new → length (edited old a new) ≤ cut → Cut cut
-  cut-end {cut} e k =
-      let z : length (behind old a) ≤ 0 = omega (arith, edited-size) in
-      let n : a + (length new + 1) ≡ suc cut = omega arith in
-      let t : take cut (edited old a new) ≡ take (a + (length new + 1)) (edited old a new) = take-all cut (edited old a new) k ∙ sym (take-all (a + (length new + 1)) (edited old a new) (omega arith)) in
-      record { within = omega (arith, edited-size); holds = omega arith; line = line-from cut (take 1 (behind old a)) (t ∙ cut-at 1) }
+    is-cut : {cut : ℕ} → cut ≤ length ed → a ≤ cut → take cut (edited old a new) ≡ above old a ++ (new ++ take 1 (behind old a)) → Cut cut
+    is-cut {cut} i j t =
+        let z : cut - 0 ≡ cut = omega arith in
+        let k : take (cut - 0) ed ≡ above old a ++ (new ++ take 1 (behind old a)) = ap (λ (n : ℕ). take n ed) z ∙ ap (take cut) e ∙ t in
+        record { within = i; place = omega (arith, ap length k, length-append (above old a) (new ++ take 1 (behind old a)), above-length); line = ap (drop a) k ∙ drop-at (above old a) (new ++ take 1 (behind old a)) a above-length }
 
-  pub cut-feed : {cut : ℕ} → cut ≡ a + length new + 1 → a + length new < length (edited old a new) → Cut cut
-  cut-feed {cut} e k =
-      let n : cut ≡ a + (length new + 1) = omega arith in
-      record { within = omega arith; holds = omega arith; line = line-from cut (take 1 (behind old a)) (ap (λ (n : ℕ). take n (edited old a new)) n ∙ cut-at 1) }
+    -- the end of the source, or a line feed
+    pub cut-end : {cut : ℕ} → cut ≡ a + length new → length ed ≤ a + length new → Cut cut
+    cut-end {cut} k i =
+        let n : length (edited old a new) ≤ cut = omega (arith, ap length e) in
+        is-cut (omega (arith, ap length e, edited-size)) (omega arith) (take-all cut (edited old a new) n ∙ sym (take-all (a + (length new + 1)) (edited old a new) (omega arith)) ∙ cut-at 1)
+
+    pub cut-feed : {cut : ℕ} → cut ≡ a + length new + 1 → a + length new < length ed → Cut cut
+    cut-feed {cut} k i =
+        let n : cut ≡ a + (length new + 1) = omega arith in
+        is-cut (omega arith) (omega arith) (ap (λ (m : ℕ). take m (edited old a new)) n ∙ cut-at 1)
+
+pub first-as : {l : List ℕ} {from a b r : ℕ} → a ≡ b → First l from a r → First l from b r
+first-as {l} {from} {r = r} e f = subst (λ (k : ℕ). First l from k r) e f
+
+pub short-take : (n : ℕ) (s : List ℕ) → length s ≤ 65536 → length (take n s) ≤ 65536
+short-take n s h = omega (arith, length-take n s)
 
 -- small bytes stay so
 foreign-take : (p n : ℕ) (s : List ℕ) → foreign p s ≡ none → foreign p (take n s) ≡ none
