@@ -1,3 +1,4 @@
+pub mod Causes
 pub mod Exchanging
 pub mod LineLaws
 pub mod Moving

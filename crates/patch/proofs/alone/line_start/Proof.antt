@@ -1,11 +1,11 @@
 -- The invariant: no line feed stands from i up to the end.
 -- Assumes nothing.
-use Prim.Native.Nat.{_≤_}
+use Prim.Native.Nat.{_-_, _≤_}
 use mathlib.Core.Path.{_≡_}
 use mathlib.Core.Bool.{false}
 use native.Mathlib.Omega.{arith}
 use borrow.Author.Needs.{needs}
-use lib.Seq.{slice}
+use lib.ListN.{take, drop}
 use Rattle.lexer.specs.Text.{among}
 use Rattle.patch.proofs.LineLaws.{begins-first, begins-fed, none-among, none-before}
 use Rattle.patch.proofs.alone.line_start.Statement.{statement}
@@ -14,7 +14,7 @@ use Rattle.patch.proofs.alone.line_start.Reads as reads
 use Rattle.patch.proofs.alone.line_start.Lts as lts
 
 abbrev Inv-loop : tie.InvT-loop
-Inv-loop source end i₀ i = (i ≤ end) × (among 10 (slice i end source) ≡ false)
+Inv-loop source end i₀ i = (i ≤ end) × (among 10 (take (end - i) (drop i source)) ≡ false)
 
 abbrev μ-loop : tie.MeasureT-loop
 μ-loop source end i₀ i = i
