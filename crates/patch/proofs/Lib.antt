@@ -4,3 +4,5 @@ pub mod LineLaws
 pub mod Moving
 pub mod Placing
 pub mod Rereading
+pub mod Standing
+pub mod Walking

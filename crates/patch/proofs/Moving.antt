@@ -9,7 +9,7 @@ use native.Mathlib.Omega.{arith}
 use native.Mathlib.Nat.{zero-add}
 use lib.Dec.{eqb, leb}
 use lib.ListN.{length, take, drop, getD, length-append, length-drop}
-use lib.Seq.{take-at}
+use lib.Seq.{take-at, take-length, paste}
 use borrow.Author.Tests.{leb-false, lt-leb}
 use Rattle.lexer.specs.Text.{if_then_else_, maybe}
 use Rattle.rules.specs.Records.{Record, ST, VC, VL, VI, VS, PF, IN, OR, OS, OI, OF, OD, OX, LL, LI, LD, LC, LT, field, encode, listing, moveRecord}
@@ -17,14 +17,20 @@ use Rattle.rules.specs.Decode.{decode}
 use Rattle.rules.specs.Patch.{statementFrom, recordsBelow, recordsOn}
 use Rattle.rules.proofs.Reencode.{Octets, reencoded}
 use Rattle.rules.proofs.PatchBytes.{kept-bytes, listing-moved}
+use Rattle.records.specs.Writes.{stores}
+use Rattle.records.proofs.Writes.{stores-room}
 use Rattle.patch.specs.Moves.{recordsAt, Decodes, First, movedBytes}
+
+-- Bytes that are copied whole.
+pub pasted : (l : List ℕ) (at : ℕ) (b : List ℕ) → at + length b ≤ length l → paste l at b (length b) ≡ stores l at b
+pasted l at b h = ap (λ (s : List ℕ). take at l ++ s ++ drop (at + length b) l) (take-length b) ∙ sym (stores-room l at b h)
 
 -- The elements of a lent slice are bytes.
 pub octets : (l : List ℕ) → ((i : ℕ) → getD l i 0 < 256) → Octets l
 octets [] h = tt
 octets (c ∷ cs) h = (h 0, octets cs (λ i. h (suc i)))
 
-octets-drop : (n : ℕ) (l : List ℕ) → Octets l → Octets (drop n l)
+pub octets-drop : (n : ℕ) (l : List ℕ) → Octets l → Octets (drop n l)
 octets-drop zero l o = o
 octets-drop (suc n) [] o = tt
 octets-drop (suc n) (c ∷ cs) o = octets-drop n cs (o .1)
