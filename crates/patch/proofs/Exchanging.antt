@@ -3,15 +3,17 @@
 use Prim.Native.Nat.{ℕ, _+_, _-_, _≤_, _<_}
 use mathlib.Core.Path.{_≡_, refl, sym, ap, _∙_}
 use mathlib.Core.Bool.{Bool, true, false, _||_, true≢false}
+use mathlib.Core.Logic.{⊎-elim}
 use mathlib.Core.List.{List, [], _++_}
 use mathlib.Core.Option.{Option, none, some}
 use native.Mathlib.Omega.{arith}
-use borrow.Author.Tests.{lt-ltb, le-ltb}
+use borrow.Author.Tests.{lt-ltb, le-ltb, ltb-true, ltb-false}
 use lib.Dec.{ltb}
 use lib.ListN.{length, take, drop}
 use lib.Seq.{take-at}
 use Rattle.lexer.specs.Text.{maybe, among, run}
 use Rattle.lexer.specs.Tokens.{inComment}
+use Rattle.lexer.proofs.Runs.{one-of}
 use Rattle.names.specs.Table.{operations}
 use Rattle.rules.specs.Records.{Record, listing}
 use Rattle.rules.specs.Reader.{nowhere}
@@ -33,9 +35,9 @@ use Rattle.patch.specs.declared.PatchAnswer.{PatchAnswer}
 use Rattle.patch.specs.declared.PatchAnswer.the-variants.{Refused}
 use Rattle.patch.specs.Moves.{recordsAt, Decodes}
 use Rattle.patch.specs.Patched.{patchAnswer, Patches, asPatch, AsFullRead}
-use Rattle.patch.proofs.LineLaws.{feed-among}
+use Rattle.patch.proofs.LineLaws.{begins-within, feed-among}
 use Rattle.patch.proofs.Placing.{refused}
-use Rattle.patch.proofs.Rereading.{line-slice, edited-is}
+use Rattle.patch.proofs.Rereading.{line-slice, edited-is, new-within}
 
 -- DEMAND 3, from what the rules say of it.
 module _ (ed : List ℕ) where
@@ -70,6 +72,13 @@ pub clauses : {old bytes : List ℕ} {a : ℕ} {new s s′ l l′ : List ℕ} {r
     × AsFullRead old bytes a new s s′ l l′ r))
 clauses p = (p .answer, (p .source, (p .listing, as-full-read p)))
 
+pub both-short : (n m : ℕ) → (ltb 65536 n || ltb 65536 m) ≡ false → (n ≤ 65536) × (m ≤ 65536)
+both-short n m e = go (ltb 65536 n) refl e
+  where
+    go : (b : Bool) → ltb 65536 n ≡ b → (b || ltb 65536 m) ≡ false → (n ≤ 65536) × (m ≤ 65536)
+    go true k h = absurd (true≢false h)
+    go false k h = (ltb-false 65536 n k, ltb-false 65536 m h)
+
 -- 42, 43 and 1, and none of them.
 module _ (old bytes : List ℕ) (a : ℕ) (new s l : List ℕ) where
   abbrev whole : Result Edit
@@ -99,6 +108,12 @@ module _ (old bytes : List ℕ) (a : ℕ) (new s l : List ℕ) where
           either : (b : Bool) → unless (b || true) (nowhere 1) (ascii (edited old a new) (patched operations old (decode bytes) a new (length s) (length l))) ≡ refuses (nowhere 1)
           either true = refl
           either false = refl
+
+      pub any-long : (ltb 65536 (length old) || ltb 65536 (length new)) ≡ true → whole ≡ refuses (nowhere 1)
+      any-long i =
+          ⊎-elim (λ j. old-long (ltb-true 65536 (length old) j))
+          (λ j. edited-long (omega (arith, ltb-true 65536 (length new) j, new-within old a new (begins-within old a h) {ed = edited old a new} refl)))
+          (one-of (ltb 65536 (length old)) (ltb 65536 (length new)) i)
 
       pub all-lent : length old ≤ 65536 → length (edited old a new) ≤ 65536 → whole ≡ ascii (edited old a new) (patched operations old (decode bytes) a new (length s) (length l))
       unfolding patch unless tooLong mostBytes
