@@ -2,26 +2,25 @@
 -- Assumes nothing.
 use mathlib.Core.Path.{_≡_, refl, sym, ap, ap₂, _∙_}
 use mathlib.Core.Bool.{Bool, true, false, true≢false}
-use mathlib.Core.List.{List, [], _∷_, _++_, append-assoc}
+use mathlib.Core.List.{List, [], _∷_, _++_}
 use mathlib.Core.Option.{Option, none, some}
-use Prim.Native.Nat.{ℕ, zero, suc, pred, _+_, _*_, _-_, _/_, _%_, _≤_, _<_, zero-le}
+use Prim.Native.Nat.{ℕ, zero, suc, pred, _+_, _*_, _/_, _%_, _≤_, _<_, zero-le}
 use native.Mathlib.Omega.{arith}
 use native.Mathlib.Nat.{add-zero}
 use lib.Dec.{eqb, leb}
-use lib.ListN.{length, take, drop, getD, take-append-drop, length-append, length-take, length-drop, List·getD-append}
-use lib.Seq.{take-at, drop-at, drop-drop, getD-drop, length-take-le}
-use borrow.Author.Tests.{leb-true, eqb-false, eq-eqb, ne-eqb}
+use lib.ListN.{length, take, drop, getD, length-append, length-drop, List·getD-append}
+use lib.Seq.{drop-drop, getD-drop, length-take-le}
+use borrow.Author.Tests.{leb-true, eqb-false, ne-eqb}
 use Rattle.lexer.specs.Text.{if_then_else_, maybe, bytes, same}
 use Rattle.rules.specs.Records.{Record, ST, VC, VL, VI, VS, PF, IN, OR, OS, OI, OF, OD, OX, LL, LI, LD, LC, LT, field, fields, encode, listing, moveRecord}
 use Rattle.rules.specs.Decode.{Sized, value, nth, having, dataAt, recordOf, also, recordsFrom, decode}
 use Rattle.rules.specs.Patch.{statementFrom}
 use Rattle.rules.proofs.Reencode.{Octets, reencoded}
-use Rattle.rules.proofs.PatchBytes.{length-moved}
-use Rattle.records.specs.Writes.{stores}
-use Rattle.records.proofs.Writes.{stores-room}
 use Rattle.checker.specs.Checker.{lettersOf}
+use Rattle.checker.proofs.Fields.{field-nth, field-bytes}
+use Rattle.checker.proofs.Arms.{Away}
 use Rattle.patch.proofs.Moving.{octets, octets-drop}
-use Rattle.patch.specs.Moves.{recordsAt, Decodes, first, recordAt, Opens, fieldAt, moveField}
+use Rattle.patch.specs.Moves.{recordsAt, first, recordAt, Opens, fieldAt}
 
 also-some : (r : Record) (o : Option (List Record)) {rs : List Record} → also r o ≡ some rs → (q : List Record) × (o ≡ some q) × (rs ≡ r ∷ q)
 unfolding also
@@ -259,6 +258,10 @@ module _ {l : List ℕ} {at mark : ℕ} (o : Opens l at mark) where
   pub room-ten : (mark ≡ 0x5354 → ⊥) → at + 10 ≤ length l
   room-ten n = let w = stands o in omega (arith, w .fits, long-ten (w .shaped (λ i. i)) (λ e. n (w .marked ∙ e)))
 
+  pub room-line : mark ≡ 0x4c49 → at + 26 ≤ length l
+  unfolding sizeBy
+  room-line e = let w = stands o in omega (arith, w .fits, size-by e refl)
+
   pub room-all : at + length (encode (recordAt l at)) ≤ length l
   room-all = stands o .fits
 
@@ -272,3 +275,41 @@ module _ {l : List ℕ} {at mark : ℕ} (o : Opens l at mark) where
 
   pub no-start : (a : ℕ) → (mark ≡ 0x5354 → ⊥) → false ≡ statementFrom a (recordAt l at)
   no-start a n = let w = stands o in other-of a (w .shaped (λ i. i)) (λ e. n (w .marked ∙ e))
+
+  pub size-six : 6 ≤ length (encode (recordAt l at))
+  size-six = long-six (stands o .shaped (λ i. i))
+
+-- the size by the marks that are none of those with another size
+pub other-size : (m n : ℕ) → Away m (0x5354 ∷ 0x5643 ∷ 0x5046 ∷ 0x494e ∷ 0x4f52 ∷ 0x4f53 ∷ 0x4f44 ∷ 0x4f58 ∷ 0x4c49 ∷ 0x4c44 ∷ []) (Unit {0}) → sizeBy m n ≡ 10
+unfolding sizeBy
+other-size m n h₁₀ =
+    let (h₉, ld) = h₁₀ in
+    let (h₈, li) = h₉ in
+    let (h₇, ox) = h₈ in
+    let (h₆, od) = h₇ in
+    let (h₅, os) = h₆ in
+    let (h₄, or) = h₅ in
+    let (h₃, in′) = h₄ in
+    let (h₂, pf) = h₃ in
+    let (h₁, vc) = h₂ in
+    let (h₀, st) = h₁ in
+    rw (
+      ne-eqb m 0x5354 st,
+      ne-eqb m 0x5643 vc,
+      ne-eqb m 0x5046 pf,
+      ne-eqb m 0x494e in′,
+      ne-eqb m 0x4f52 or,
+      ne-eqb m 0x4f53 os,
+      ne-eqb m 0x4f44 od,
+      ne-eqb m 0x4f58 ox,
+      ne-eqb m 0x4c49 li,
+      ne-eqb m 0x4c44 ld,
+    )
+
+-- a field's four bytes joined
+pub field-joined : (l : List ℕ) (at : ℕ) → at + 4 ≤ length l → fieldAt l at ≡ getD l at 0 + 256 * (getD l (at + 1) 0 + 256 * (getD l (at + 2) 0 + 256 * getD l (at + 3) 0))
+unfolding fieldAt nth
+field-joined l at h =
+    let s : List ℕ = drop at l in
+    let k : 4 * 0 + 4 ≤ length s = omega (arith, length-drop at l) in
+    sym (field-nth 0 s k) ∙ field-bytes 0 s k ∙ rw (getD-drop at l 0 0, getD-drop at l 1 0, getD-drop at l 2 0, getD-drop at l 3 0, add-zero at)

@@ -1,13 +1,13 @@
 -- The walks over the records of a listing: to the first statement from a place on, and moving each where it stands.
 -- Assumes nothing.
 use mathlib.Core.Path.{_≡_, refl, sym, ap, ap₂, _∙_}
-use mathlib.Core.Bool.{Bool, true, false}
-use mathlib.Core.List.{List, [], _∷_, _++_, map, append-assoc, append-nil}
+use mathlib.Core.Bool.{true, false}
+use mathlib.Core.List.{List, [], _∷_, _++_, append-assoc, append-nil}
 use mathlib.Core.Option.{some}
 use Prim.Native.Nat.{ℕ, _+_, _*_, _-_, _≤_, _<_, zero-le}
 use native.Mathlib.Omega.{arith}
 use lib.Dec.{eqb}
-use lib.ListN.{length, take, drop, getD, take-append-drop, length-append, length-take, length-drop, drop-of-length-le}
+use lib.ListN.{length, take, drop, getD, take-append-drop, length-append, drop-of-length-le}
 use lib.Seq.{take-at, drop-at, drop-drop, take-all, length-take-le}
 use borrow.Author.Tests.{eq-eqb, ne-eqb}
 use Rattle.lexer.specs.Text.{if_then_else_, bytes}
@@ -17,7 +17,6 @@ use Rattle.rules.specs.Patch.{statementFrom, recordsBelow, recordsOn}
 use Rattle.rules.proofs.PatchBytes.{length-moved}
 use Rattle.records.specs.Writes.{stores}
 use Rattle.records.proofs.Writes.{stores-room, stores-length}
-use Rattle.checker.specs.Checker.{lettersOf}
 use Rattle.checker.proofs.Fields.{letters}
 use Rattle.patch.specs.Moves.{recordsAt, Decodes, First, recordAt, Opens, fieldAt, moveField, movedBytes}
 use Rattle.patch.proofs.Moving.{records-are, decodes}
