@@ -131,7 +131,6 @@ module _ (ed : List ℕ) (short : length ed ≤ 65536) (x : Result Edit) where
   plain-ascii : lending.Accepted ≡ lentOf ed → (ascii ed x ≡ x) × (foreignPlace ed ≡ length ed)
   plain-ascii e = let (i, j, k) = lent-accepted ed x e in (sym lent-ascii ∙ i, k)
 
-
 -- the edited source at the head of a room that is large enough
 module _ (old : List ℕ) (a : ℕ) (new : List ℕ) (h : a ≤ length old) (room : List ℕ) {end n : ℕ} {room′ : List ℕ} (e : end ≡ a + length (lineAt old a)) (k : n ≡ length (edited old a new)) (short : n ≤ 65536)
     (f : room′ ≡ overwrite (take a old ++ (new ++ drop end old)) room) where

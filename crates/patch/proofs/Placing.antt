@@ -122,5 +122,5 @@ module _ {old : List ℕ} {a p below on : ℕ} (P : Parts old a p below on) (q :
       let z = moved-length q p (recordsOn (a + p) rs) in
       let b : below - 0 ≡ below = omega arith in
       let o = assembled l (listing (recordsBelow a rs)) (listing w) m (P .first) (ap (λ (x : ℕ). below + x) k) (omega (arith, P .all)) f
-          (g ∙ ap (stores (take below l ++ (part ++ drop (length l - below) (drop below l))) 0) (ap (λ (x : ℕ). take x old) b ∙ P .kept)) (j ∙ ap (λ (r : List Record). stores l₂ (below + n) (movedBytes q p r)) (P .rest)) in
+      (g ∙ ap (stores (take below l ++ (part ++ drop (length l - below) (drop below l))) 0) (ap (λ (x : ℕ). take x old) b ∙ P .kept)) (j ∙ ap (λ (r : List Record). stores l₂ (below + n) (movedBytes q p r)) (P .rest)) in
       placed s l ed (exchanged a p q rs w) h (omega (arith, size-is k)) (e ∙ stored-over s ed h) (o ∙ ap (λ (b : List ℕ). overwrite b l) (sym (exchanged-bytes a p q rs w))) (size-is k)

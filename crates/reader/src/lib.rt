@@ -215,8 +215,8 @@ fn one_statement(
         StatementRead::Refused(r) => StatementAnswer::Refused(r),
         StatementRead::NoneLeft(_) => StatementAnswer::NoneLeft,
         StatementRead::Read(q, n) => {
-            let size = n as usize;
-            if out.len() < size {
+            let bytes = n as usize;
+            if out.len() < bytes {
                 return StatementAnswer::Refused(refused_at(4, 0, 0));
             }
             match statement(source, table, out, 0, p) {

@@ -22,7 +22,7 @@ same-length-2 : tie.Need-same-length-2
 same-length-2 c = search needs
 
 returns : tie.Need-returns
-returns c = (c .patching-of .ensures ∙ ap patching (c .before .before .before .before .patch .ensures .0), (c .before .before .before .before .patch .ensures .1 .0, c .before .before .before .before .patch .ensures .1 .1 .0))
+returns c = (c .patching-of .ensures ∙ ap patching (c .before .before .before .before .before .patch .ensures .0), (c .before .before .before .before .before .patch .ensures .1 .0, c .before .before .before .before .before .patch .ensures .1 .1 .0))
 
 pub laqhoncu-patch-spec : {M : Type 1} → statement M
 laqhoncu-patch-spec =
