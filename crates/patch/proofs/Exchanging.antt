@@ -30,7 +30,6 @@ use Rattle.reader.specs.Lent.{foreignPlace, lentOf}
 use Rattle.reader.specs.Calls.{fullAnswer}
 use Rattle.reader.proofs.Lending.{lent-refused, lent-accepted}
 use Rattle.parser.specs.declared.state.Refusal.{Refusal}
-use Rattle.parser.specs.Views.{numbersOf}
 use Rattle.patch.specs.declared.PatchAnswer.{PatchAnswer}
 use Rattle.patch.specs.declared.PatchAnswer.the-variants.{Refused}
 use Rattle.patch.specs.Moves.{recordsAt, Decodes}

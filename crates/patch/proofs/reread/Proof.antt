@@ -1,13 +1,12 @@
 -- The cut ends behind the new line, so only that line is read, in its place.
 -- Assumes nothing.
 use Prim.Native.Nat.{_+_, _-_}
-use mathlib.Core.Path.{_≡_, refl, sym, ap, subst, _∙_}
+use mathlib.Core.Path.{_≡_, subst}
 use mathlib.Core.Logic.{⊎-elim}
 use native.Mathlib.Omega.{arith}
 use denote.Ref.{now}
-use lib.ListN.{length, take}
 use Rattle.names.proofs.Operations.{made-good}
-use Rattle.parser.specs.Statements.{Started, Starts, ReadsStatements}
+use Rattle.parser.specs.Statements.{Starts, ReadsStatements}
 use Rattle.patch.proofs.Moving.{first-decodes}
 use Rattle.patch.proofs.Rereading.{new-within, Cut, cut-end, cut-feed, first-as, short-take, plain-take, not-begun, denied, measured, line-denied, line-accepted}
 use borrow.Author.Needs.{needs}
