@@ -1,0 +1,3 @@
+// One line of a marker file exchanged, with what is said about it.
+pub mod places;
+pub mod words;
