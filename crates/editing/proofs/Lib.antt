@@ -1,3 +1,4 @@
 pub mod Saying
 pub mod Lines
 pub mod Said
+pub mod Outcomes
