@@ -2,3 +2,5 @@ pub mod Saying
 pub mod Lines
 pub mod Said
 pub mod Outcomes
+pub mod Short
+pub mod Rooms

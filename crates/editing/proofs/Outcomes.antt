@@ -71,11 +71,11 @@ module _ (old bs : List ℕ) (n : ℕ) (new : List ℕ) (roomS roomL : ℕ) {s l
   no-file (gives w) h d = absurd (true≢false cc)
   no-file {c} (refuses y) h d = let z : c ≡ numbersOf y = cc in denied (rw z at d)
 
-  pub in-file : {k : ℕ} {t t′ s′ l′ : List ℕ} (x : Result (List Record)) → full.Written k ≡ fullAnswer x → t′ ≡ leaves listing x t
+  pub in-file : {k : ℕ} (t : List ℕ) {t′ s′ l′ : List ℕ} (x : Result (List Record)) → full.Written k ≡ fullAnswer x → t′ ≡ leaves listing x t
       → Edits (inFile old (take k t′) n new roomS roomL (lineStart n old)) s s′ l l′ m m′ r → Edits (ofFile old n new roomS roomL x) s s′ l l′ m m′ r
   unfolding ofFile leaves overwrite
-  in-file {k} {t} {t′} (gives w) h b e =
+  in-file {k} t {t′} (gives w) h b e =
       let z : k ≡ length (listing w) = cc in
       let y : take k t′ ≡ listing w = rw (z, b) (take-append-seam (listing w) (drop (length (listing w)) t)) in
       rw y at e
-  in-file (refuses c) h b e = absurd (true≢false cc)
+  in-file t (refuses c) h b e = absurd (true≢false cc)
