@@ -7,8 +7,8 @@ use parser::statements::statements;
 ghost use mathlib.Core.Path.{_≡_};
 ghost use mathlib.Core.Bool.{true, false};
 ghost use mathlib.Core.List.{[]};
-ghost use Prim.Native.Nat.{ℕ, _≤_};
-ghost use lib.ListN.{length};
+ghost use Prim.Native.Nat.{ℕ, _-_, _≤_};
+ghost use lib.ListN.{length, take, drop};
 ghost use Rattle.lexer.specs.Text.{maybe, among};
 ghost use Rattle.names.specs.Table.{operations};
 ghost use Rattle.rules.specs.Patch.{beginsLine, above, linesFrom, bareLine, nearest, leavesOpen};
@@ -43,7 +43,10 @@ fn is_bare(line: &[u8]) -> bool
 }
 
 // Where the line begins that ends before a place.
-fn line_start(source: &[u8], end: usize) -> usize {
+fn line_start(source: &[u8], end: usize) -> usize
+    requires { ⌜ end ≤ length (now source) ⌝ }
+    ensures { λ r. ⌜ (r ≤ end) × (beginsLine (now (source .entry)) r ≡ true) × (among 10 (take (end - r) (drop r (now (source .entry)))) ≡ false) ⌝ }
+{
     let mut i = end;
     while 0 < i {
         if source[i - 1] == b'\n' {
@@ -51,7 +54,7 @@ fn line_start(source: &[u8], end: usize) -> usize {
         }
         i = i - 1;
     }
-    0
+    i
 }
 
 // Whether the nearest line above a place that has more leaves a `times` open.

@@ -54,8 +54,8 @@ pub fn edit(source: &[u8], place: usize, end: usize, text: &[u8], out: &mut [u8]
     requires { ⌜ (place ≤ end) × (end ≤ length (now source)) × (length (now source) ≤ 65536) × (place + length (now text) + (length (now source) - end) ≤ length (now out)) ⌝ }
     ensures { λ _. ⌜ now (out .exit) ≡ overwrite (take place (now (source .entry)) ++ (now (text .entry) ++ drop end (now (source .entry)))) (now (out .entry)) ⌝ }
 {
-    copy(out, 0, &source[0..place]);
-    copy(out, place, text);
     let behind = place + text.len();
     copy(out, behind, &source[end..]);
+    copy(out, place, text);
+    copy(out, 0, &source[0..place]);
 }

@@ -3,11 +3,16 @@ use super::lines::copy;
 ghost use mathlib.Core.Path.{_≡_};
 ghost use Prim.Native.Nat.{ℕ, _+_, _-_, _≤_, _<_};
 ghost use lib.ListN.{length, drop};
+ghost use Rattle.rules.specs.Records.{encode, moveRecord};
+ghost use Rattle.rules.specs.Patch.{statementFrom};
 ghost use Rattle.records.specs.Writes.{stores};
-ghost use Rattle.patch.specs.Moves.{Decodes, First, recordsAt, movedBytes};
+ghost use Rattle.patch.specs.Moves.{Decodes, Opens, First, recordsAt, recordAt, fieldAt, moveField, movedBytes};
 
 // The field at a place.
-fn field(s: &[u8], at: usize) -> usize {
+fn field(s: &[u8], at: usize) -> usize
+    requires { ⌜ at + 4 ≤ length (now s) ⌝ }
+    ensures { λ r. ⌜ (r ≡ fieldAt (now (s .entry)) at) × (r < 4294967296) ⌝ }
+{
     checker::joined(s[at], s[at + 1], s[at + 2], s[at + 3])
 }
 
@@ -34,7 +39,10 @@ const LD: usize = 0x4c44;
 const LT: usize = 0x4c54;
 
 // How many bytes the record with this mark at a place has.
-fn size(s: &[u8], at: usize, mark: usize) -> usize {
+fn size(s: &[u8], at: usize, mark: usize) -> usize
+    requires { ⌜ Opens (now s) at mark ⌝ }
+    ensures { λ r. ⌜ r ≡ length (encode (recordAt (now (s .entry)) at)) ⌝ }
+{
     match mark {
         ST => 6,
         VC => 14,
@@ -50,6 +58,17 @@ fn size(s: &[u8], at: usize, mark: usize) -> usize {
     }
 }
 
+// Whether the record with this mark at a place is a statement with that place or above.
+fn starts(s: &[u8], at: usize, mark: usize, place: usize) -> bool
+    requires { ⌜ Opens (now s) at mark ⌝ }
+    ensures { λ r. ⌜ r ≡ statementFrom place (recordAt (now (s .entry)) at) ⌝ }
+{
+    if mark == ST {
+        return place <= field(s, at + 2);
+    }
+    false
+}
+
 // Where in the listing, from one record on, the first statement with that place or above stands.
 pub fn first_from(listing: &[u8], from: usize, place: usize) -> usize
     requires { ⌜ Decodes (now listing) from ⌝ }
@@ -58,10 +77,8 @@ pub fn first_from(listing: &[u8], from: usize, place: usize) -> usize
     let mut i = from;
     while i < listing.len() {
         let mark = checker::marked(listing[i], listing[i + 1]);
-        if mark == ST {
-            if place <= field(listing, i + 2) {
-                return i;
-            }
+        if starts(listing, i, mark, place) {
+            return i;
         }
         i = i + size(listing, i, mark);
     }
@@ -69,7 +86,10 @@ pub fn first_from(listing: &[u8], from: usize, place: usize) -> usize
 }
 
 // A field moved in its place.
-fn move_field(s: &mut [u8], at: usize, q: usize, p: usize) {
+fn move_field(s: &mut [u8], at: usize, q: usize, p: usize)
+    requires { ⌜ (at + 4 ≤ length (now s)) × (q ≤ 65536) ⌝ }
+    ensures { λ _. ⌜ now (s .exit) ≡ moveField q p (now (s .entry)) at ⌝ }
+{
     let v = field(s, at) + q;
     let mut w: usize = 0;
     if p <= v {
@@ -82,7 +102,10 @@ fn move_field(s: &mut [u8], at: usize, q: usize, p: usize) {
 }
 
 // The record at a place moved: ST's place, or its spans.
-fn move_record(s: &mut [u8], at: usize, mark: usize, q: usize, p: usize) {
+fn move_record(s: &mut [u8], at: usize, mark: usize, q: usize, p: usize)
+    requires { ⌜ Opens (now s) at mark × (q ≤ 65536) ⌝ }
+    ensures { λ _. ⌜ now (s .exit) ≡ stores (now (s .entry)) at (encode (moveRecord (λ k. k + q - p) (recordAt (now (s .entry)) at))) ⌝ }
+{
     if mark == LT {
         return;
     }

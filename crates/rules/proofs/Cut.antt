@@ -3,6 +3,7 @@ use mathlib.Core.Path.{_≡_, refl, sym, ap, ap₂, _∙_}
 use mathlib.Core.Bool.{Bool, true, false, _&&_, true≢false, false≢true}
 use mathlib.Core.List.{List, [], _∷_, _++_, map, append-nil}
 use mathlib.Core.Option.{Option, none, some}
+use mathlib.Core.Logic.{_⊎_, inl, inr}
 use Prim.Native.Nat.{ℕ, zero, suc, pred, _+_, _≤_, zero-le}
 use native.Mathlib.Omega.{arith}
 use lib.Dec.{eqb}
@@ -454,6 +455,28 @@ module _ (table : List ℕ) where
       let j : zeros (rowsFrom p s) ≡ moveRow z r ∷ (zeros rs ++ []) = i ∙ ap (λ (k : List Row). moveRow z r ∷ k) (sym (append-nil (zeros rs))) in
       let k : zeros (rowsFrom p (s ++ lineFeed)) ≡ moveRow z r ∷ (zeros rs ++ (endRow 0 ∷ [])) = rows-end p s ∙ ap (λ (l : List Row). l ++ (endRow 0 ∷ [])) i in
       moved-open z q′ (bare-open (follows table [] bare (endRow 0) [] (zeros rs) (rw j at (begins-shift z g′)) (rw k at (begins-shift z g))) (open-moved z q h))
+
+  -- What is refused is 34 only where a content is missing.
+  bare-refused : {r : Refusal} {a q : Answer State (Unit {0})} → Follows table [] bare (endRow 0) [] a q → a ≡ refused r → Mild r ⊎ Lack r
+  bare-refused (Follows.on g) e = absurd (true≢false cc)
+  bare-refused {r} (Follows.same {r = r′} m) e = let y : r′ ≡ r = cc in inl (rw y at m)
+  bare-refused {r} (Follows.late {f} {t} w p c) e = let y : at 34 f t ≡ r = cc in rw (← y) (inr refl)
+
+  mild-moved : (f : ℕ → ℕ) (r : Refusal) → Mild (moveRefusal f r) ⊎ Lack (moveRefusal f r) → Mild r ⊎ Lack r
+  unfolding moveRefusal
+  mild-moved f (at n p q) h = h
+  mild-moved f (nowhere n) h = h
+  mild-moved f (encoding p q a b) h = h
+
+  pub mild-or-lacks : (p : ℕ) (s : List ℕ) (r : Refusal) → Gives p s (refused r) → Mild r ⊎ Lack r
+  unfolding moved carry
+  mild-or-lacks p s r g =
+      let (k, rs, e) = some-row p s in
+      let z : ℕ → ℕ = λ _. 0 in
+      let i : zeros (rowsFrom p s) ≡ moveRow z k ∷ zeros rs = ap zeros e in
+      let j : zeros (rowsFrom p s) ≡ moveRow z k ∷ (zeros rs ++ []) = i ∙ ap (λ (l : List Row). moveRow z k ∷ l) (sym (append-nil (zeros rs))) in
+      let l : zeros (rowsFrom p (s ++ lineFeed)) ≡ moveRow z k ∷ (zeros rs ++ (endRow 0 ∷ [])) = rows-end p s ∙ ap (λ (m : List Row). m ++ (endRow 0 ∷ [])) i in
+      mild-moved z r (bare-refused (follows table [] bare (endRow 0) [] (zeros rs) (rw j at (begins-shift z g)) (rw l at (begins-shift z (gives p (s ++ lineFeed))))) refl)
 
   pub blank-gives : (l : List Row) → Some l → blankRows l ≡ true → {a : Answer State (Unit {0})} → Begins table l a → (u : State) × (a ≡ done [] tt u)
   unfolding blankRows enter firstOf skipLines thence after

@@ -31,7 +31,7 @@ Option-map g (some a) = some (g a)
 -- A refusal other than 34, which alone depends on the lines below.
 abbrev pub Mild : Refusal → Type 0
 Mild (at n f t) = eqb n 34 ≡ false
-Mild (nowhere n) = Unit {0}
+Mild (nowhere n) = eqb n 34 ≡ false
 Mild (encoding f t a b) = Unit {0}
 
 abbrev pub Any : Refusal → Type 0
@@ -248,7 +248,7 @@ module _ (f : ℕ → ℕ) (P : Line → Type 0) (closed : (s : Line) → P s �
     primary-shifts = bind _ ahead-shifts λ x.
         whether (isMark "(" (x .kind)) (andThen (andThen next-shifts (each 0)) (expect-shifts ")" 14 refl))
         (perhaps (operatorOf (x .kind)) atom-shifts λ op. andThen next-shifts (andThen
-        (whether (ltb op 2) (each prefixLevel) (refuses same _ tt))
+        (whether (ltb op 2) (each prefixLevel) (refuses same _ refl))
         (bind _ passed-shifts λ t. writes _)))
 
     infixes-shifts : (n level p : ℕ) → Shifts f P same (infixes n inner level p) (infixes n inner level (f p))

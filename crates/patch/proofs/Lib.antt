@@ -1,0 +1,8 @@
+pub mod Causes
+pub mod Exchanging
+pub mod LineLaws
+pub mod Moving
+pub mod Placing
+pub mod Rereading
+pub mod Standing
+pub mod Walking

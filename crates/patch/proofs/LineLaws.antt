@@ -1,0 +1,302 @@
+-- Lines of a source, and what a line says read alone.
+-- Assumes nothing.
+use Prim.Native.Nat.{ℕ, zero, suc, pred, _+_, _-_, _≤_, _<_}
+use Prim.Native.Char.{code}
+use mathlib.Core.Path.{_≡_, refl, sym, ap, ap₂, _∙_}
+use mathlib.Core.Bool.{Bool, true, false, not, _&&_, _||_, and-true, true≢false}
+use mathlib.Core.List.{List, [], _∷_, _++_, append-nil, append-assoc}
+use mathlib.Core.Option.{Option, none, some}
+use native.Mathlib.Omega.{arith}
+use borrow.Author.Tests.{eqb-true, eqb-false, eq-eqb, ne-eqb, lt-ltb, le-leb, lt-leb, leb-true}
+use lib.Dec.{eqb, leb, ltb, leb·suc-suc}
+use lib.ListN.{length, take, drop, getD, length-take, length-drop}
+use lib.Seq.{take-suc, take-add}
+use Rattle.lexer.specs.Text.{if_then_else_, maybe, is, within, anyOf, isBlank, isDigit, isHexDigit, isLetter, among, run, all, last, digit, valueFrom}
+use Rattle.lexer.specs.Tokens.{largest, numeral, stray, prefixed, digits, inBase, suffixed, numberAt, inQuotes, stringAfter, inComment, mark, markAt, tokenAt, sizeOf}
+use Rattle.lexer.specs.declared.TokenRead.{TokenRead}
+use Rattle.lexer.proofs.Runs.{run-le, digits-more, digits-none}
+use Rattle.lexer.proofs.Branches.{either, and-split}
+use Rattle.rules.specs.Lexemes.{Lexeme, kindOf, isGap, lexeme, put, tokensFrom}
+use Rattle.rules.specs.Reader.{Refusal as Cause, Answer, done, refused, arrive, isLineEnd}
+use Rattle.rules.specs.Statements.{Row, State, push, rows, firstOf, enter}
+use Rattle.rules.specs.Patch.{beginsLine, lineAt, linesFrom, bareLine, nearest}
+use Rattle.rules.proofs.Append.{end-fine, arrive-fine}
+use Rattle.rules.proofs.Cut.{blankRows, arrive-done}
+use Rattle.rules.proofs.Exchange.{ends-rows}
+use Rattle.parser.specs.declared.state.Parser.{Parser}
+use Rattle.parser.specs.declared.state.Refusal.{Refusal}
+use Rattle.parser.specs.Views.{hereOf, stateOf}
+use Rattle.parser.specs.Statements.{begin, Started, NotStarted}
+
+-- A line's length.
+pub line-length : (s : List ℕ) (a : ℕ) → a ≤ length s → length (lineAt s a) ≡ run inComment (drop a s)
+unfolding lineAt
+line-length s a h = length-take (run inComment (drop a s)) (drop a s) ∙ omega (arith, run-le inComment (drop a s))
+
+-- A line feed stands in a text where the run up to it is shorter.
+pub feed-among : (t : List ℕ) → among 10 t ≡ ltb (run inComment t) (length t)
+unfolding among run inComment is
+feed-among [] = refl
+feed-among (c ∷ t) = go (eqb c 10) refl (feed-among t)
+  where
+    go : (b : Bool) → eqb c 10 ≡ b → among 10 t ≡ ltb (run inComment t) (length t) → (eqb 10 c || among 10 t) ≡ ltb (if not b then suc (run inComment t) else 0) (suc (length t))
+    go true e h = rw (eqb-true c 10 e) (sym (lt-ltb 0 (suc (length t)) (omega arith)))
+    go false e h = rw (ne-eqb 10 c (λ k. eqb-false c 10 e (sym k))) (h ∙ sym (leb·suc-suc (suc (run inComment t)) (length t)))
+
+-- A line goes on to its line feed.
+pub feed-stops : (c : ℕ) → c ≡ 10 → inComment c ≡ false
+unfolding inComment is
+feed-stops c e = rw e
+
+pub other-goes : (c : ℕ) → (c ≡ 10 → ⊥) → inComment c ≡ true
+unfolding inComment is
+other-goes c n = rw (ne-eqb c 10 n)
+
+-- Where a line begins.
+module _ (s : List ℕ) where
+  pub begins-first : (a : ℕ) → a ≤ 0 → beginsLine s a ≡ true
+  unfolding beginsLine
+  begins-first a h = rw (eq-eqb a 0 (omega arith))
+
+  pub begins-beyond : (a : ℕ) → (a ≡ 0 → ⊥) → length s < a → false ≡ beginsLine s a
+  unfolding beginsLine
+  begins-beyond a n h = rw (ne-eqb a 0 n, lt-leb a (length s) h)
+
+  pub begins-behind : (a : ℕ) → (a ≡ 0 → ⊥) → a ≤ length s → eqb (getD s (a - 1) 0) 10 ≡ beginsLine s a
+  unfolding beginsLine is
+  begins-behind a n h =
+      let e : a - 1 ≡ pred a = omega arith in
+      rw (ne-eqb a 0 n, le-leb a (length s) h, e)
+
+  pub begins-fed : (a : ℕ) → 0 < a → a ≤ length s → getD s (a - 1) 0 ≡ 10 → beginsLine s a ≡ true
+  begins-fed a n h e = sym (begins-behind a (λ z. omega arith) h) ∙ eq-eqb (getD s (a - 1) 0) 10 e
+
+  -- what stands before the line that begins at a place
+  pub begins-within : (a : ℕ) → beginsLine s a ≡ true → a ≤ length s
+  unfolding beginsLine
+  begins-within zero h = omega arith
+  begins-within (suc n) h = leb-true (suc n) (length s) (and-split (leb (suc n) (length s)) (is "\n" (getD s n 0)) (rw (ne-eqb (suc n) 0 (λ z. omega arith)) at h) .0)
+
+  pub begins-feed : (n : ℕ) → beginsLine s (suc n) ≡ true → getD s n 0 ≡ 10
+  unfolding beginsLine is
+  begins-feed n h = eqb-true (getD s n 0) 10 (and-split (leb (suc n) (length s)) (eqb (getD s n 0) 10) (rw (ne-eqb (suc n) 0 (λ z. omega arith)) at h) .1)
+
+  -- the bytes from one place to before another; no line feed is among them
+  abbrev pub part : ℕ → ℕ → List ℕ
+  part b e = take (e - b) (drop b s)
+
+  pub none-among : (e : ℕ) → among 10 (part e e) ≡ false
+  unfolding among
+  none-among e = rw (digits-none s e e (omega arith))
+
+  pub none-before : (i e : ℕ) → 0 < i → i ≤ e → e ≤ length s → (getD s (i - 1) 0 ≡ 10 → ⊥) → among 10 (part i e) ≡ false → among 10 (part (i - 1) e) ≡ false
+  unfolding among
+  none-before i e h k l n f =
+      let j : i - 1 + 1 ≡ i = omega arith in
+      let rest : among 10 (part (i - 1 + 1) e) ≡ false = ap (λ (m : ℕ). among 10 (part m e)) j ∙ f in
+      rw (digits-more s (i - 1) e (omega arith) l, ne-eqb 10 (getD s (i - 1) 0) (λ z. n (sym z))) rest
+
+-- The lines of whole lines and what follows.
+feed-is : is "\n" 10 ≡ true
+unfolding is
+feed-is = refl
+
+lines-append : (k : List ℕ) (n : ℕ) (s B : List ℕ) → getD s n 0 ≡ 10 → linesFrom k (take (suc n) s ++ B) ≡ linesFrom k (take (suc n) s) ++ linesFrom [] B
+unfolding linesFrom
+lines-append k n [] B h = let z : _≡_ {A = ℕ} 0 10 = h in absurd (omega arith)
+lines-append k zero (c ∷ cs) B h = rw (h, feed-is)
+lines-append k (suc n) (c ∷ cs) B h = go (is "\n" c) (lines-append [] n cs B h) (lines-append (k ++ (c ∷ [])) n cs B h)
+  where
+    go : (b : Bool) → linesFrom [] (take (suc n) cs ++ B) ≡ linesFrom [] (take (suc n) cs) ++ linesFrom [] B
+        → linesFrom (k ++ (c ∷ [])) (take (suc n) cs ++ B) ≡ linesFrom (k ++ (c ∷ [])) (take (suc n) cs) ++ linesFrom [] B
+        → _≡_ {A = List (List ℕ)} (if b then (k ∷ linesFrom [] (take (suc n) cs ++ B)) else (linesFrom (k ++ (c ∷ [])) (take (suc n) cs ++ B)))
+        ((if b then (k ∷ linesFrom [] (take (suc n) cs)) else (linesFrom (k ++ (c ∷ [])) (take (suc n) cs))) ++ linesFrom [] B)
+    go true i j = ap (λ (l : List (List ℕ)). k ∷ l) i
+    go false i j = j
+
+-- a line alone
+line-alone : (k l : List ℕ) → among 10 l ≡ false → linesFrom k (l ++ (10 ∷ [])) ≡ (k ++ l) ∷ []
+unfolding linesFrom among is
+line-alone k [] h = ap (λ (l : List ℕ). l ∷ []) (sym (append-nil k))
+line-alone k (c ∷ cs) h = go (eqb 10 c) refl h (λ i. line-alone (k ++ (c ∷ [])) cs i)
+  where
+    go : (b : Bool) → eqb 10 c ≡ b → b || among 10 cs ≡ false → (among 10 cs ≡ false → linesFrom (k ++ (c ∷ [])) (cs ++ (10 ∷ [])) ≡ ((k ++ (c ∷ [])) ++ cs) ∷ []) → linesFrom k ((c ∷ cs) ++ (10 ∷ [])) ≡ (k ++ (c ∷ cs)) ∷ []
+    go true e h again = absurd (true≢false h)
+    go false e h again = rw (ne-eqb c 10 (λ z. eqb-false 10 c e (sym z))) (again h ∙ ap (λ (l : List ℕ). l ∷ []) (append-assoc k (c ∷ []) cs))
+
+module _ (s : List ℕ) where
+  -- a line feed at e, and a line from b to before it
+  line-parts : (b e : ℕ) → b ≤ e → e < length s → getD s e 0 ≡ 10 → take (suc e) s ≡ take b s ++ (part s b e ++ (10 ∷ []))
+  line-parts b e h l f =
+      let n : b + (e - b) ≡ e = omega arith in
+      let i : take e s ≡ take b s ++ part s b e = ap (λ (m : ℕ). take m s) (sym n) ∙ take-add b (e - b) s in
+      take-suc s e 0 l ∙ ap₂ (λ (k : List ℕ) (c : ℕ). k ++ (c ∷ [])) i f ∙ append-assoc (take b s) (part s b e) (10 ∷ [])
+
+  lines-last : (b e : ℕ) → beginsLine s b ≡ true → b ≤ e → e < length s → getD s e 0 ≡ 10 → among 10 (part s b e) ≡ false
+      → linesFrom [] (take (suc e) s) ≡ linesFrom [] (take b s) ++ (part s b e ∷ [])
+  unfolding linesFrom
+  lines-last zero e g h l f n = ap (linesFrom []) (line-parts zero e h l f) ∙ line-alone [] (part s zero e) n
+  lines-last (suc m) e g h l f n = ap (linesFrom []) (line-parts (suc m) e h l f) ∙ lines-append [] m s (part s (suc m) e ++ (10 ∷ [])) (begins-feed s m g)
+      ∙ ap (λ (r : List (List ℕ)). linesFrom [] (take (suc m) s) ++ r) (line-alone [] (part s (suc m) e) n)
+
+-- The nearest of lines of which the last is l.
+nearest-last : (ls : List (List ℕ)) (l : List ℕ) → nearest (ls ++ (l ∷ [])) ≡ (if bareLine l then (nearest ls) else (some l))
+unfolding nearest
+nearest-last [] l = refl
+nearest-last (k ∷ ls) l = rw (nearest-last ls l) (go (bareLine l))
+  where
+    go : (b : Bool) → _≡_ {A = Option (List ℕ)} (maybe (if b then (nearest ls) else (some l)) (if bareLine k then none else (some k)) some)
+        (if b then (maybe (nearest ls) (if bareLine k then none else (some k)) some) else (some l))
+    go true = refl
+    go false = refl
+
+-- The nearest above a place behind the line from b to before e.
+module _ (s : List ℕ) (a b e : ℕ) (f : List ℕ → Bool) (behind : beginsLine s a ≡ true) (some-line : 0 < a) (end : e ≡ a - 1) (begins : beginsLine s b ≡ true) (ordered : b ≤ e)
+    (plain : among 10 (part s b e) ≡ false) where
+  nearest-is : nearest (linesFrom [] (take a s)) ≡ (if bareLine (part s b e) then (nearest (linesFrom [] (take b s))) else (some (part s b e)))
+  nearest-is =
+      let n : suc e ≡ a = omega arith in
+      let k : beginsLine s (suc e) ≡ true = rw n behind in
+      let i : linesFrom [] (take a s) ≡ linesFrom [] (take b s) ++ (part s b e ∷ []) =
+      rw (← n) (lines-last s b e begins ordered (omega (arith, begins-within s (suc e) k)) (begins-feed s e k) plain) in
+      ap nearest i ∙ nearest-last (linesFrom [] (take b s)) (part s b e)
+
+  pub past-bare : bareLine (part s b e) ≡ true → maybe (nearest (linesFrom [] (take b s))) false f ≡ maybe (nearest (linesFrom [] (take a s))) false f
+  past-bare h =
+      let i : nearest (linesFrom [] (take a s)) ≡ nearest (linesFrom [] (take b s)) = rw h at nearest-is in
+      rw i
+
+  pub at-nearest : bareLine (part s b e) ≡ false → f (part s b e) ≡ maybe (nearest (linesFrom [] (take a s))) false f
+  at-nearest h =
+      let i : nearest (linesFrom [] (take a s)) ≡ some (part s b e) = rw h at nearest-is in
+      rw i
+
+-- nothing above the first line
+pub none-above : (s : List ℕ) (a : ℕ) (f : List ℕ → Bool) → a ≤ 0 → false ≡ maybe (nearest (linesFrom [] (take a s))) false f
+unfolding linesFrom nearest
+none-above s zero f h = refl
+none-above s (suc a) f h = absurd (omega arith)
+
+-- a part is no longer than the whole
+pub part-long : (s : List ℕ) (b e n : ℕ) → length s ≤ n → length (part s b e) ≤ n
+part-long s b e n h = omega (arith, length-take (e - b) (drop b s), length-drop b s)
+
+-- A token that begins with another byte than a line feed ends no line.
+module _ (s : List ℕ) where
+  abbrev Inside : TokenRead → Type 0
+  Inside t = isLineEnd (kindOf t s) ≡ false
+
+  digits-inside : (c base : ℕ) (ds : List ℕ) (n : ℕ) → Inside (digits c base ds n)
+  unfolding digits numeral stray isLineEnd
+  digits-inside c base ds n = either Inside (all (λ d. ltb (digit d) base) ds && leb (valueFrom 0 base ds) largest) _ _ refl refl
+
+  inBase-inside : (c n : ℕ) (ds cut : List ℕ) (after : ℕ) → Inside (inBase c n ds cut after)
+  unfolding inBase isLineEnd
+  inBase-inside c n ds cut after =
+      either Inside (anyOf "bB" (last ds)) _ _ (either Inside (all (λ d. leb d (code "1")) cut) _ _ (digits-inside c 2 cut n) refl)
+      (either Inside (anyOf "dD" (last ds)) _ _ (digits-inside c 10 cut n)
+      (either Inside (anyOf "oO" after) _ _ (digits-inside c 8 ds (suc n))
+      (either Inside (anyOf "hH" after) _ _ (digits-inside c 16 ds (suc n)) (digits-inside c 10 ds n))))
+
+  prefixed-inside : (base : ℕ) (p : ℕ → Bool) (t : List ℕ) → Inside (prefixed base p t)
+  unfolding prefixed numeral isLineEnd
+  prefixed-inside base p t = either Inside (eqb (run p t) 0) _ _ refl (either Inside (leb (valueFrom 0 base (take (run p t) t)) largest) _ _ refl refl)
+
+  suffixed-inside : (c : ℕ) (cs : List ℕ) → Inside (suffixed c cs)
+  unfolding suffixed
+  suffixed-inside c cs = inBase-inside c _ _ _ _
+
+  numberAt-inside : (c : ℕ) (cs : List ℕ) → Inside (numberAt c cs)
+  unfolding numberAt
+  numberAt-inside c [] = suffixed-inside c []
+  numberAt-inside c (d ∷ ds) =
+      either Inside (not (is "0" c)) _ _ (suffixed-inside c (d ∷ ds))
+      (either Inside (is "b" d) _ _ (prefixed-inside 2 (within "0" "1") ds)
+      (either Inside (is "o" d) _ _ (prefixed-inside 8 (within "0" "7") ds)
+      (either Inside (is "d" d) _ _ (prefixed-inside 10 isDigit ds)
+      (either Inside (is "x" d) _ _ (prefixed-inside 16 isHexDigit ds) (suffixed-inside c (d ∷ ds))))))
+
+  stringAfter-inside : (cs : List ℕ) → Inside (stringAfter cs)
+  unfolding stringAfter isLineEnd
+  stringAfter-inside cs = either Inside (is "'" (getD cs (run inQuotes cs) 0)) _ _ refl refl
+
+  markAt-inside : (c : ℕ) → Inside (markAt c)
+  unfolding markAt mark stray isLineEnd
+  markAt-inside c =
+      either Inside (is ":" c) _ _ refl
+      (either Inside (is "," c) _ _ refl
+      (either Inside (is "$" c) _ _ refl
+      (either Inside (is "." c) _ _ refl
+      (either Inside (is "[" c) _ _ refl
+      (either Inside (is "]" c) _ _ refl
+      (either Inside (is "(" c) _ _ refl
+      (either Inside (is ")" c) _ _ refl
+      (either Inside (is "+" c) _ _ refl
+      (either Inside (is "-" c) _ _ refl
+      (either Inside (is "*" c) _ _ refl
+      (either Inside (is "/" c) _ _ refl refl)))))))))))
+
+  token-inside : (c : ℕ) (cs : List ℕ) → is "\n" c ≡ false → Inside (tokenAt (c ∷ cs))
+  unfolding tokenAt isLineEnd
+  token-inside c cs h =
+      either Inside (is ";" c) _ _ refl
+      (either Inside (isBlank c) _ _ refl
+      (either Inside (isDigit c) _ _ (numberAt-inside c cs)
+      (either Inside (isLetter c) _ _ refl
+      (either Inside (is "'" c) _ _ (stringAfter-inside cs)
+      (rw h (markAt-inside c))))))
+
+-- So a text without a line feed is one row.
+abbrev One : List Row → Type 0
+One l = (r : Row) × (l ≡ r ∷ [])
+
+put-one : (p : ℕ) (t : TokenRead) (s : List ℕ) (xs : List Lexeme) → Inside s t → One (rows xs) → One (rows (put p t s xs))
+unfolding put lexeme rows push
+put-one p t s xs i (r, e) = go (isGap (kindOf t s))
+  where
+    go : (b : Bool) → One (rows (if b then xs else (record { from = p; to = p + sizeOf t; kind = kindOf t s } ∷ xs)))
+    go true = (r, e)
+    go false = (record { first = record { from = p; to = p + sizeOf t; kind = kindOf t s }; more = r .first ∷ r .more }, rw (i, e))
+
+other-first : (c : ℕ) (cs : List ℕ) → among 10 (c ∷ cs) ≡ false → (is "\n" c ≡ false) × (among 10 cs ≡ false)
+unfolding among is
+other-first c cs h = go (eqb 10 c) refl h
+  where
+    go : (b : Bool) → eqb 10 c ≡ b → b || among 10 cs ≡ false → (eqb c 10 ≡ false) × (among 10 cs ≡ false)
+    go true e h = absurd (true≢false h)
+    go false e h = (ne-eqb c 10 (λ z. eqb-false 10 c e (sym z)), h)
+
+one-row : (p k : ℕ) (s : List ℕ) → among 10 s ≡ false → One (rows (tokensFrom p k s))
+unfolding tokensFrom rows isLineEnd
+one-row p k [] h = (_, refl)
+one-row p (suc k) (c ∷ cs) h = one-row (suc p) k cs (other-first c cs h .1)
+one-row p zero (c ∷ cs) h =
+    let (i, j) = other-first c cs h in
+    put-one p (tokenAt (c ∷ cs)) (c ∷ cs) _ (token-inside (c ∷ cs) c cs i) (one-row (suc p) (pred (sizeOf (tokenAt (c ∷ cs)))) cs j)
+
+-- Whether it is bare says its first token.
+module _ (s : List ℕ) (plain : among 10 s ≡ false) where
+  bare-by : (r : Row) → rows (tokensFrom 0 0 s) ≡ r ∷ [] → isLineEnd (r .first .kind) ≡ bareLine s
+  unfolding bareLine blankRows
+  bare-by r e = sym (sym (ends-rows (tokensFrom 0 0 s)) ∙ ap blankRows e ∙ and-true (isLineEnd (r .first .kind)))
+
+  pub bare-begun : (p : Parser) → Started s 0 p → isLineEnd (hereOf s p .kind) ≡ bareLine s
+  unfolding begin enter firstOf
+  bare-begun p b =
+      let (r, e) = one-row 0 0 s plain in
+      let i : arrive (r .first) (done [] tt (enter r [])) ≡ done [] tt (stateOf s p) = rw e at (b .reads) in
+      let j : enter r [] ≡ stateOf s p = cc (arrive-done (r .first) (done [] tt (enter r [])) i) in
+      sym (ap (λ (u : State). isLineEnd (u .line .here .kind)) j) ∙ bare-by r e
+
+  pub bare-not-begun : {q : Refusal} → NotStarted s 0 q → false ≡ bareLine s
+  unfolding begin
+  bare-not-begun b =
+      let (r, e) = one-row 0 0 s plain in
+      let i : arrive (r .first) (done [] tt (enter r [])) ≡ refused (b .cause) = rw e at (b .reads) in
+      go r (isLineEnd (r .first .kind)) refl (b .cause) i ∙ bare-by r e
+    where
+      go : (r : Row) (o : Bool) → isLineEnd (r .first .kind) ≡ o → (k : Cause) → _≡_ {A = Answer State (Unit {0})} (arrive (r .first) (done [] tt (enter r []))) (refused k) → false ≡ isLineEnd (r .first .kind)
+      go r false h k i = sym h
+      go r true h k i =
+          let j : _≡_ {A = Answer State (Unit {0})} (done [] tt (enter r [])) (refused k) = sym (arrive-fine (r .first) (done [] tt (enter r [])) (end-fine (r .first .kind) h)) ∙ i in
+          absurd (true≢false cc)
