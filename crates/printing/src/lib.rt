@@ -1,5 +1,5 @@
 // What the program `listing` prints: a listing's records as lines, or a refusal.
-mod text;
+pub mod text;
 
 use reader::FullAnswer;
 use reader::full_read;

@@ -1,0 +1,6 @@
+pub mod Saying
+pub mod Lines
+pub mod Said
+pub mod Outcomes
+pub mod Short
+pub mod Rooms
