@@ -57,7 +57,10 @@ fn is_whole(fd: i32, n: usize, path: &[u8]) -> bool {
         return false;
     }
     if 0 < got {
-        io::write_all(STDERR_FILENO, b"the file could not be read in one go; try again\n");
+        io::write_all(
+            STDERR_FILENO,
+            b"the file could not be read in one go; try again\n",
+        );
         return false;
     }
     true
@@ -125,7 +128,10 @@ fn edit_line_of(path: &[u8], line: usize) {
 
 fn main() {
     if os::arg_count() != 4 {
-        io::write_all(STDOUT_FILENO, b"usage: edit FILE LINE TEXT\nLINE counts from 1; TEXT takes the place of that line.\n");
+        io::write_all(
+            STDOUT_FILENO,
+            b"usage: edit FILE LINE TEXT\nLINE counts from 1; TEXT takes the place of that line.\n",
+        );
         return;
     }
     let mut digits = [0u8; 16];

@@ -105,7 +105,8 @@ within old n new room {s} {s′} {l} {l′} {m} {m′} {r} x =
     let o : Said = editLine old n new room (length s) (length l) in
     let t : List ℕ = take (length m) (o .message) in
     let k = length-take (length m) (o .message) in
-    let z : r .message ≡ length t = ap (λ (y : Edited). y .message) (x .answer) ∙ message-size (length t) (o .result) in
-    (source-within s (length t) (o .result) (λ e. file-room old n new (length s) (length l) e (fullCall operations old room)) (x .answer) (x .source),
-    rw (z, x .message) (overwritten t m (omega arith)),
-    λ h. omega (arith, message-most old n new (length s) (length l) room))
+    let z : r .message ≡ length t = ap (λ (y : Edited). y .message) (x .answer) ∙ message-size (length t) (o .result) in (
+      source-within s (length t) (o .result) (λ e. file-room old n new (length s) (length l) e (fullCall operations old room)) (x .answer) (x .source),
+      rw (z, x .message) (overwritten t m (omega arith)),
+      λ h. omega (arith, message-most old n new (length s) (length l) room),
+    )

@@ -56,8 +56,14 @@ unfolding spotText bytes
 spot-most p =
     let a : List ℕ = decimal (p .line) in
     let b : List ℕ = decimal (p .column) in
-    omega (arith, decimal-most (p .line), decimal-most (p .column), length-append (bytes " at line " ++ a ++ bytes ", column ") b,
-    length-append (bytes " at line " ++ a) (bytes ", column "), length-append (bytes " at line ") a)
+    omega (
+      arith,
+      decimal-most (p .line),
+      decimal-most (p .column),
+      length-append (bytes " at line " ++ a ++ bytes ", column ") b,
+      length-append (bytes " at line " ++ a) (bytes ", column "),
+      length-append (bytes " at line ") a,
+    )
 
 at-most : (r : Refusal) (p : Spot) → length (atText r p) ≤ 58
 unfolding atText

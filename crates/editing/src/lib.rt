@@ -120,7 +120,12 @@ pub fn edit_line(
     match full_read(old, listing) {
         FullAnswer::Refused(r) => {
             let from = r.from;
-            refused(message, b"the file itself is refused: ", r, spot_at(old, from))
+            refused(
+                message,
+                b"the file itself is refused: ",
+                r,
+                spot_at(old, from),
+            )
         }
         FullAnswer::Written(n) => {
             let end = n as usize;

@@ -10,7 +10,11 @@ pub fn put_words(out: &mut [u8], at: usize, number: u8) -> usize
         1 => put_all(out, at, b"a file may have at most 65,536 bytes"),
         2 => put_all(out, at, b"a character that is not ASCII stands"),
         3 => put_all(out, at, b"the expression is nested more than 32 deep"),
-        4 => put_all(out, at, b"the listing of the file is longer than there is room for"),
+        4 => put_all(
+            out,
+            at,
+            b"the listing of the file is longer than there is room for",
+        ),
         5 => put_all(out, at, b"`times` is nested more than 16 deep"),
         6 => put_all(out, at, b"the edited file is longer than there is room for"),
         10 => put_all(out, at, b"the end of the line is expected"),
@@ -25,7 +29,11 @@ pub fn put_words(out: &mut [u8], at: usize, number: u8) -> usize
         21 => put_all(out, at, b"a value or an operand is expected"),
         22 => put_all(out, at, b"`*` or `/` stands where a value should begin"),
         23 => put_all(out, at, b"`db` or `dw` has no data"),
-        24 => put_all(out, at, b"a segment or an address is expected in the bracket"),
+        24 => put_all(
+            out,
+            at,
+            b"a segment or an address is expected in the bracket",
+        ),
         25 => put_all(out, at, b"these registers make no address"),
         26 => put_all(out, at, b"a quoted text is not closed"),
         30 => put_all(out, at, b"a binary number has a digit above 1"),
@@ -33,10 +41,18 @@ pub fn put_words(out: &mut [u8], at: usize, number: u8) -> usize
         32 => put_all(out, at, b"nothing stands behind the segment in the bracket"),
         33 => put_all(out, at, b"si or di cannot be added to si or di"),
         34 => put_all(out, at, b"`times` has no content"),
-        40 => put_all(out, at, b"this line, its new text or the line above it leaves `times` without a content; change such lines together, in an editor"),
+        40 => put_all(
+            out,
+            at,
+            b"this line, its new text or the line above it leaves `times` without a content; change such lines together, in an editor",
+        ),
         41 => put_all(out, at, b"the listing of the file is not well-formed"),
         42 => put_all(out, at, b"the file has no such line"),
-        43 => put_all(out, at, b"the new text has a line feed, and must be one line"),
+        43 => put_all(
+            out,
+            at,
+            b"the new text has a line feed, and must be one line",
+        ),
         _ => put_all(out, at, b"it is refused"),
     }
 }

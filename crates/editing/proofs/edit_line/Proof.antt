@@ -63,7 +63,7 @@ same-length-2 c = search needs
 
 returns : tie.Need-returns
 unfolding bytes editLine
-returns c = 
+returns c =
     let f = c .before .before .before .before .before .before .before .before .before .before .before .full-read .ensures in
     let a = c .before .before .before .before .before .before .before .before .before .before .before .before .before .before .before .before .before .before .before .args in
     let e = no-file (now (a .old)) [] (a .line) (now (a .text)) _ _ _ (sym (c .before .before .before .before .before .before .before .r .given .1) ∙ f .0) (rw (c .before .before .before .spot-at .ensures) at (c .before .before .refused .ensures)) in
@@ -84,7 +84,7 @@ same-length-6 c = search needs
 
 returns-2 : tie.Need-returns-2
 unfolding fullBuffer editLine
-returns-2 c = 
+returns-2 c =
     let f = c .before .before .before .before .before .before .before .before .before .before .before .before .before .before .before .before .before .full-read .ensures in
     let a = c .before .before .before .before .before .before .before .before .before .before .before .before .before .before .before .before .before .before .before .before .before .before .before .before .before .args in
     let n = c .before .before .before .before .before .before .before .before .before .before .before .before .before .n .given .0 .0 in

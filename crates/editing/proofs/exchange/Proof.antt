@@ -43,7 +43,7 @@ same-length-3 : tie.Need-same-length-3
 same-length-3 c = search needs
 
 returns : tie.Need-returns
-returns c = 
+returns c =
     let p = c .before .before .before .before .before .before .before .before .before .before .before .patch .ensures in
     by-patch _ _ _ (sym (c .before .before .before .before .before .n .given .1) ∙ p .0) (p .1 .0) (p .1 .1 .0) (c .before .before .done-text .ensures)
 
@@ -58,7 +58,7 @@ same-length-6 c = search needs
 
 returns-2 : tie.Need-returns-2
 unfolding bytes
-returns-2 c = 
+returns-2 c =
     let p = c .before .before .before .before .before .before .before .before .before .before .before .before .before .patch .ensures in
     not-by-patch _ _ _ (sym (c .before .before .before .before .before .before .before .r .given .1) ∙ p .0) (p .1 .0) (p .1 .1 .0) (rw (c .before .before .before .in-line .ensures) at (c .before .before .refused .ensures))
 

@@ -26,7 +26,7 @@ same-length c = search needs
 
 returns : tie.Need-returns
 unfolding newName bytes
-returns c = 
+returns c =
     let h = holds (follows _ _ (c .before .before .before .before .before .before .before .put-all .ensures) (c .before .before .put-all2 .ensures)) in
     (said _ h (le-refl _) .1, h)
 

@@ -20,7 +20,7 @@ same-length : tie.Need-same-length
 same-length c = search needs
 
 returns-2 : tie.Need-returns-2
-returns-2 c = 
+returns-2 c =
     let x = c .before .before .put-spot .ensures in
     ⊎-elim (λ w. reads-as (sym (to-placed _ _ (w .2 .left))) x) (λ w. reads-as (sym (from-placed _ _ (w .left))) x) (c .before .before .before .before .if1 .came)
 

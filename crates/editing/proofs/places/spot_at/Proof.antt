@@ -41,7 +41,7 @@ loop-less : tie.Need-loop-less Inv-loop μ-loop
 loop-less c = search needs
 
 loop-again : tie.Need-loop-again Inv-loop μ-loop
-loop-again c = 
+loop-again c =
     let l = c .before .before .before .loop in
     let h : l .i < length (now (c .before .before .before .before .before .before .args .source)) = omega (arith, c .before .before .before .before .least .ensures, c .before .before .loop-test .taken) in
     ⊎-elim
