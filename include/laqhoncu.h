@@ -1,6 +1,6 @@
 /* The functions of the static library (`rt staticlib exports`). Their contracts are in crates/exports/src/lib.rt; what the fields
    hold in each case is defined in crates/exports/specs/. Any arguments may be given, as long as a pointer and the length behind it
-   name bytes that the caller has lent, and the bytes of `out` are no others'. Nothing is kept after a call. */
+   name bytes that the caller has lent, and the bytes of `out`, and of `source` in the patch, are no others'. Nothing is kept after a call. */
 #ifndef LAQHONCU_H
 #define LAQHONCU_H
 #include <stddef.h>
@@ -12,11 +12,11 @@ extern "C" {
 
 /* A refusal: its number (0 is none), its span and its registers; a register that is not there is 255. */
 struct laqhoncu_numbers {
-    uint8_t number;
+    uint32_t number;
     uint32_t from;
     uint32_t to;
-    uint8_t first;
-    uint8_t second;
+    uint32_t first;
+    uint32_t second;
 };
 
 /* kind: a punctuation's own character, '\n', ' ' (whitespace), ';' (comment), 'a' (name), '0' (number), '\'' (closed string),
@@ -52,8 +52,21 @@ struct laqhoncu_valuation {
     int32_t value;
 };
 
+/* How many bytes of `source` and of `out` were written, each from its first on; 0 at a refusal, which leaves both as they were. */
+struct laqhoncu_patching {
+    struct laqhoncu_numbers refusal;
+    size_t source;
+    size_t listing;
+};
+
 /* All statements of a source, as a listing. A buffer of 18 times the source is always long enough. */
 struct laqhoncu_full_reading laqhoncu_full_read(const uint8_t *source, size_t length, uint8_t *out, size_t room);
+
+/* The line that begins at a place of the old source exchanged for a text: the edited source goes to `source` and its listing to `out`.
+   `listing` is the old source's; only the new line is read. An edited source is at most 65,536 bytes long. */
+struct laqhoncu_patching laqhoncu_patch(const uint8_t *old, size_t length, const uint8_t *listing, size_t listing_length, size_t place,
+                                        const uint8_t *text, size_t text_length, uint8_t *source, size_t source_room, uint8_t *out,
+                                        size_t room);
 
 /* The statement at a place. */
 struct laqhoncu_statement_reading laqhoncu_statement_read(const uint8_t *source, size_t length, size_t place, uint8_t *out, size_t room);

@@ -11,11 +11,11 @@ struct TokenFound {
 
 #[repr(C)]
 struct Numbers {
-    number: u8,
+    number: u32,
     from: u32,
     to: u32,
-    first: u8,
-    second: u8,
+    first: u32,
+    second: u32,
 }
 
 #[repr(C)]
@@ -39,6 +39,13 @@ struct TokenReading {
 }
 
 #[repr(C)]
+struct Patching {
+    refusal: Numbers,
+    source: usize,
+    listing: usize,
+}
+
+#[repr(C)]
 struct Valuation {
     refusal: Numbers,
     value: i32,
@@ -55,6 +62,19 @@ extern "C" {
     fn laqhoncu_full_read(source: *const u8, length: usize, out: *mut u8, room: usize) -> FullReading;
     fn laqhoncu_statement_read(source: *const u8, length: usize, place: usize, out: *mut u8, room: usize) -> StatementReading;
     fn laqhoncu_token_read(source: *const u8, length: usize, place: usize) -> TokenReading;
+    fn laqhoncu_patch(
+        old: *const u8,
+        length: usize,
+        listing: *const u8,
+        listing_length: usize,
+        place: usize,
+        text: *const u8,
+        text_length: usize,
+        source: *mut u8,
+        source_room: usize,
+        out: *mut u8,
+        room: usize,
+    ) -> Patching;
     fn laqhoncu_evaluate(operator: u8, left: i32, right: i32) -> Valuation;
 }
 
@@ -64,7 +84,8 @@ impl Numbers {
     fn checked(self) -> Result<(), Refusal> {
         let Numbers { number, from, to, first, second } = self;
         if number != 0 {
-            return Err(Refusal { number, from: from as usize, to: to as usize, first, second });
+            let byte = |n: u32| u8::try_from(n).unwrap();
+            return Err(Refusal { number: byte(number), from: from as usize, to: to as usize, first: byte(first), second: byte(second) });
         }
         assert_eq!((from, to, first, second), (0, 0, 255, 255));
         Ok(())
@@ -76,6 +97,35 @@ impl Numbers {
 pub fn full_read(source: &[u8], out: &mut [u8]) -> Result<usize, Refusal> {
     let said = unsafe { laqhoncu_full_read(source.as_ptr(), source.len(), out.as_mut_ptr(), out.len()) };
     said.refusal.checked().map(|()| said.length as usize)
+}
+
+/// The line that begins at `place` of a source exchanged for a text: the edited source and its listing, written from the first byte
+/// of their buffers on; their lengths. `listing` is the old source's.
+#[inline]
+pub fn patch(
+    old: &[u8],
+    listing: &[u8],
+    place: usize,
+    text: &[u8],
+    source: &mut [u8],
+    out: &mut [u8],
+) -> Result<(usize, usize), Refusal> {
+    let said = unsafe {
+        laqhoncu_patch(
+            old.as_ptr(),
+            old.len(),
+            listing.as_ptr(),
+            listing.len(),
+            place,
+            text.as_ptr(),
+            text.len(),
+            source.as_mut_ptr(),
+            source.len(),
+            out.as_mut_ptr(),
+            out.len(),
+        )
+    };
+    said.refusal.checked().map(|()| (said.source, said.listing))
 }
 
 /// The statement at a place, written from the buffer's first byte on: its length and the place of the token ahead; None where

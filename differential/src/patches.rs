@@ -228,10 +228,26 @@ pub fn calls(count: u64, f: &mut impl FnMut(&Call)) {
 pub trait Patch: FnMut(&Call, &mut [u8], &mut [u8]) -> Result<(usize, usize), Refusal> {}
 impl<F: FnMut(&Call, &mut [u8], &mut [u8]) -> Result<(usize, usize), Refusal>> Patch for F {}
 
+const UNTOUCHED: u8 = 0xA5;
+
+/// One call, lent so many bytes of a pattern: what it says, with the bytes that it wrote. Panics where it wrote others.
+fn called(ours: &mut impl Patch, call: &Call, source_room: usize, listing_room: usize) -> Patched {
+    let (mut source, mut listing) = (vec![UNTOUCHED; source_room], vec![UNTOUCHED; listing_room]);
+    let said = ours(call, &mut source, &mut listing);
+    let (s, l) = *said.as_ref().unwrap_or(&(0, 0));
+    let untouched = source[s..].iter().chain(&listing[l..]).all(|b| *b == UNTOUCHED);
+    assert!(untouched, "wrote beyond its result: {}", shown(call));
+    said.map(|(s, l)| (source[..s].to_vec(), listing[..l].to_vec()))
+}
+
+fn shown(call: &Call) -> String {
+    let text = |bytes: &[u8]| bytes.escape_ascii().to_string();
+    format!("{:?} at {}: {:?}, listing {:?}", text(call.source), call.place, text(call.text), text(call.listing))
+}
+
 /// Compares a patch with the expected one: with room enough, with just enough, with a byte too little for the source, the listing
 /// or both. Panics where they differ; gives the number of calls and how many were accepted.
 pub fn compare(count: u64, mut ours: impl Patch) -> (u64, u64) {
-    const UNTOUCHED: u8 = 0xA5;
     let (mut compared, mut accepted) = (0, 0);
     calls(count, &mut |call| {
         let rooms = match expected(call, usize::MAX, usize::MAX) {
@@ -244,21 +260,179 @@ pub fn compare(count: u64, mut ours: impl Patch) -> (u64, u64) {
         };
         for (source_room, listing_room) in rooms {
             let expected = expected(call, source_room, listing_room);
-            let (mut source, mut listing) = (vec![UNTOUCHED; source_room], vec![UNTOUCHED; listing_room]);
-            let said = ours(call, &mut source, &mut listing).map(|(s, l)| (source[..s].to_vec(), listing[..l].to_vec()));
-            let shown = |bytes: &[u8]| String::from_utf8_lossy(bytes).into_owned();
+            let said = called(&mut ours, call, source_room, listing_room);
             assert!(
                 said == expected,
-                "{:?} at {}: {:?}\nlent {source_room} and {listing_room} bytes\nexpected {expected:?}\nsaid {said:?}",
-                shown(call.source),
-                call.place,
-                shown(call.text)
+                "{}\nlent {source_room} and {listing_room} bytes\nexpected {expected:?}\nsaid {said:?}",
+                shown(call)
             );
-            let (s, l) = said.map_or((0, 0), |(s, l)| (s.len(), l.len()));
-            let untouched = source[s..].iter().chain(&listing[l..]).all(|b| *b == UNTOUCHED);
-            assert!(untouched, "wrote beyond its result: {:?} at {}", shown(call.source), call.place);
             compared += 1;
         }
     });
     (compared, accepted)
+}
+
+/// Where the lines of a source begin.
+fn line_starts(source: &[u8]) -> Vec<usize> {
+    std::iter::once(0).chain((1..=source.len()).filter(|at| source[at - 1] == b'\n')).collect()
+}
+
+/// Demand 3, with no oracle between: on accepted sources, each of their lines and random texts, the patch answers as the full read of
+/// the edited source does, lent as many bytes for the listing; or it is refused with 40, and then a line of the proviso leaves a
+/// `times` open. Gives the calls, how many of them were accepted, refused as the full read, and refused with 40.
+pub fn as_full_read(
+    count: u64,
+    mut ours: impl Patch,
+    mut full_read: impl FnMut(&[u8], &mut [u8]) -> Result<usize, Refusal>,
+) -> [u64; 4] {
+    let (mut random, mut met) = (Random::new(7), [0; 4]);
+    while met[0] < count {
+        let mut source = Vec::new();
+        for _ in 0..1 + random.below(4) {
+            source.extend(sources::grammar(&mut random));
+            if random.once_in(3) {
+                source.extend_from_slice(random.of(&["\n", " ; a comment\n", "\n\t\n", "times 2\n", "times 3 ; two\n\n"]).as_bytes());
+            }
+        }
+        let mut room = vec![0; 18 * source.len()];
+        let Ok(length) = full_read(&source, &mut room) else { continue };
+        for place in line_starts(&source) {
+            let text = match random.below(6) {
+                0 => Vec::new(),
+                1 => sources::changed(&mut random, &source),
+                2 => random.of(&["times 2", "times 2 nop", "\t; bare", "k equ *5", "dw 0abh", "db 'open", "rep"]).as_bytes().to_vec(),
+                _ => sources::grammar(&mut random),
+            };
+            let text = text.split(|b| *b == b'\n').next().unwrap();
+            let call = Call { source: &source, listing: &room[..length], place, text };
+            let end = place + source[place..].iter().take_while(|b| **b != b'\n').count();
+            let edited = [&source[..place], text, &source[end..]].concat();
+            let mut enough = vec![0; 18 * edited.len()];
+            let most = full_read(&edited, &mut enough).unwrap_or(0);
+            let lent = match random.below(4) {
+                0 => most,
+                1 => most.saturating_sub(1),
+                _ => most + random.below(9),
+            };
+            let mut out = vec![UNTOUCHED; lent];
+            let expected = full_read(&edited, &mut out).map(|n| (edited.clone(), out[..n].to_vec()));
+            let said = called(&mut ours, &call, edited.len() + random.below(2), lent);
+            met[0] += 1;
+            if said == Err(Refusal::at(40, 0, 0)) {
+                assert!(open_beside(&call, end), "{}\nrefused with 40, and no line leaves a `times` open", shown(&call));
+                met[3] += 1;
+                continue;
+            }
+            assert!(said == expected, "{}\nlent {lent} bytes\nfull read {expected:?}\npatch {said:?}", shown(&call));
+            met[if said.is_ok() { 1 } else { 2 }] += 1;
+        }
+    }
+    met
+}
+
+/// Whether the replaced line, the new one, or the nearest above that has more leaves a `times` open.
+fn open_beside(call: &Call, end: usize) -> bool {
+    let above = call.source[..call.place].split(|b| *b == b'\n').rev().skip(1).find(|line| !blank(line));
+    [Some(&call.source[call.place..end]), Some(call.text), above].into_iter().flatten().any(leaves_times_open)
+}
+
+/// Listings damaged in every place: each byte changed, each prefix, each record left out, doubled or exchanged with the next. The patch
+/// refuses with 41 just those that aren't well-formed; the others it treats by its rule. Gives the calls and how many were refused so.
+pub fn damaged(mut ours: impl Patch) -> (u64, u64) {
+    let (mut compared, mut refused) = (0, 0);
+    let source = b"k equ -1+2*3\nstart: mov ax,[bx+4]\nes: jmp 1:2\n times 2 times $$-$ db 'ab',3\nmov byte [ds:k],al\nw dw 1, 2\nrep\n";
+    let pieces = ["k equ -1+2*3\n", "mov ax,[bx+4]\n", "jmp 1:2\n", "times 2 times $$-$ db 'ab',3\n", "mov word [ds:k],bx\n", "w dw 1, 2\n", "rep\n", "in al,dx\nmov es,ax\n"];
+    let mut list = vec![pieces.concat().into_bytes(), source.to_vec()];
+    list.extend(pieces.iter().map(|piece| piece.as_bytes().to_vec()));
+    for source in list {
+        let Ok(listing) = limits::read(&source) else { continue };
+        let starts = line_starts(&source);
+        let mut tried = |listing: &[u8]| {
+            for place in [starts[starts.len() / 2], starts[0]] {
+                let call = Call { source: &source, listing, place, text: b"nop" };
+                let expected = expected(&call, 65536, 65536);
+                let said = called(&mut ours, &call, 65536, 65536);
+                assert!(said == expected, "{}\nexpected {expected:?}\nsaid {said:?}", shown(&call));
+                compared += 1;
+                refused += (said == Err(Refusal::at(41, 0, 0))) as u64;
+            }
+        };
+        tried(&listing);
+        for at in 0..listing.len() {
+            tried(&listing[..at]);
+            for step in [1, 2, 16, 127, 128, 255] {
+                let mut other = listing.clone();
+                other[at] = other[at].wrapping_add(step);
+                tried(&other);
+            }
+        }
+        // the bytes of each record
+        let mut list: Vec<&[u8]> = Vec::new();
+        for record in records(&listing).unwrap() {
+            let at = list.iter().map(|bytes| bytes.len()).sum::<usize>();
+            list.push(&listing[at..at + 2 + 4 * record.fields.len() + record.data.len()]);
+        }
+        for at in 0..list.len() {
+            let other = [&list[..at], &list[at + 1..]].concat();
+            tried(&other.concat());
+            let other = [&list[..=at], &list[at..]].concat();
+            tried(&other.concat());
+            for with in at + 1..list.len() {
+                let mut other = list.clone();
+                other.swap(at, with);
+                tried(&other.concat());
+            }
+        }
+    }
+    (compared, refused)
+}
+
+/// The order of the refusals: a call with each set of causes at once is refused by the first of them. Gives the calls.
+pub fn order(mut ours: impl Patch) -> u64 {
+    // 23 stands for the reading.
+    const ORDER: [u8; 9] = [42, 43, 1, 2, 41, 40, 23, 6, 4];
+    let mut compared = 0;
+    for causes in 0..1 << ORDER.len() {
+        let has = |number: u8| causes >> ORDER.iter().position(|n| *n == number).unwrap() & 1 == 1;
+        // Three ways to leave a `times` open.
+        for open in ["replaced", "new", "above"] {
+            let way = |name| has(40) && open == name;
+            let above = if way("above") { "a db 1\ntimes 2\n ; bare\n\n" } else { "a db 1\n" };
+            let replaced = if way("replaced") { "times 2" } else { "b db 2" };
+            let source = format!("{above}{replaced}\nc db 3\n").into_bytes();
+            let mut text = b"b db 4".to_vec();
+            if has(23) {
+                text = b"b db ,,".to_vec();
+            }
+            if way("new") {
+                // 34 comes first where both are in the new line
+                text = if has(23) { continue } else { b"b times 2".to_vec() };
+            }
+            if has(43) {
+                text.extend_from_slice(b"\nnop");
+            }
+            if has(2) {
+                text.extend_from_slice(b" ;\xc8");
+            }
+            if has(1) {
+                text.resize(65530, b' ');
+            }
+            let mut listing = limits::read(b"a db 1\n").unwrap();
+            if has(41) {
+                listing.pop();
+            }
+            let place = above.len() + has(42) as usize;
+            let end = above.len() + replaced.len();
+            let edited = above.len() + text.len() + source.len() - end;
+            // a label and its data, above and in the new line
+            let written = 2 * (6 + 10 + 6 + 15);
+            let call = Call { source: &source, listing: &listing, place, text: &text };
+            let said = called(&mut ours, &call, edited - has(6) as usize, written - has(4) as usize);
+            let first = ORDER.into_iter().find(|number| has(*number));
+            let number = said.as_ref().err().map(|refusal| refusal.number);
+            assert!(number == first, "{}\ncauses {causes:b}: expected {first:?}, said {said:?}", shown(&call));
+            compared += 1;
+        }
+    }
+    compared
 }

@@ -3,7 +3,7 @@ use printing::text::put_all;
 ghost use Rattle.printing.specs.Text.{Wrote};
 ghost use Rattle.editing.specs.Words.{wordsOf};
 
-pub fn put_words(out: &mut [u8], at: usize, number: u8) -> usize
+pub fn put_words(out: &mut [u8], at: usize, number: u32) -> usize
     ensures { λ r. ⌜ Wrote at (wordsOf number) (now (out .entry)) (now (out .exit)) r ⌝ }
 {
     match number {

@@ -14,7 +14,10 @@ use Rattle.reader.specs.declared.StatementAnswer.{StatementAnswer}
 use Rattle.reader.specs.declared.StatementAnswer.the-variants as statement
 use Rattle.reader.specs.declared.TokenAnswer.{TokenAnswer}
 use Rattle.reader.specs.declared.TokenAnswer.the-variants as read
+use Rattle.patch.specs.declared.PatchAnswer.{PatchAnswer}
+use Rattle.patch.specs.declared.PatchAnswer.the-variants as patched
 use Rattle.exports.specs.declared.Numbers.{Numbers}
+use Rattle.exports.specs.declared.Patching.{Patching}
 use Rattle.exports.specs.declared.FullReading.{FullReading}
 use Rattle.exports.specs.declared.StatementReading.{StatementReading}
 use Rattle.exports.specs.declared.TokenFound.{TokenFound}
@@ -50,6 +53,13 @@ token refusal t = record { refusal = refusal; token = t }
 abbrev pub tokenReading : TokenAnswer → TokenReading
 tokenReading (read.Read t c) = token (numbered 0) (tokenFound t (c .pos))
 tokenReading (read.Refused r) = token (numbers r) (plain endOfFile 0)
+
+abbrev pub both : Numbers → ℕ → ℕ → Patching
+both refusal source listing = record { refusal = refusal; source = source; listing = listing }
+
+abbrev pub patching : PatchAnswer → Patching
+patching (patched.Written s l) = both (numbered 0) s l
+patching (patched.Refused r) = both (numbers r) 0 0
 
 abbrev pub value : Numbers → ℤ → Valuation
 value refusal v = record { refusal = refusal; value = v }

@@ -11,6 +11,7 @@ use names::Name;
 use parser::expressions::Evaluated;
 use parser::expressions::Operator;
 use parser::state::Refusal;
+use patch::PatchAnswer;
 use reader::FullAnswer;
 use reader::StatementAnswer;
 use reader::TokenAnswer;
@@ -23,12 +24,14 @@ ghost use Rattle.names.specs.Table.{operations};
 ghost use Rattle.names.specs.Names.{operationNamed, foundOf, nameOf, directiveOf};
 ghost use Rattle.rules.specs.Calls as rules;
 ghost use Rattle.rules.specs.Evaluate.{evaluate};
+ghost use Rattle.rules.specs.Patch.{patch as patchCall, patchSource, patchListing};
 ghost use Rattle.parser.specs.Operators.{operatorNumber, resultOf};
 ghost use Rattle.reader.specs.Calls.{tokenAnswer, statementAnswer, fullAnswer};
+ghost use Rattle.patch.specs.Patched.{patchAnswer};
 ghost use Rattle.exports.specs.Found as spec;
 ghost use Rattle.exports.specs.Found.{literalFound, tokenFound, nextFound, operationByte, lookedUp, nameNumber, directiveByte};
 ghost use Rattle.exports.specs.Readings as readings;
-ghost use Rattle.exports.specs.Readings.{fullReading, statementReading, tokenReading, valuation, valued};
+ghost use Rattle.exports.specs.Readings.{fullReading, statementReading, tokenReading, patching, valuation, valued};
 
 // A token as numbers: its kind as in `lexer::Scanned`, a number's value or an invalid token's byte, and the place behind it.
 #[repr(C)]
@@ -196,11 +199,11 @@ pub extern "C" fn laqhoncu_directive(word: &[u8]) -> u8
 // A refusal as document 01 numbers it; number 0 is none. A register that is not there is 255.
 #[repr(C)]
 pub struct Numbers {
-    pub number: u8,
+    pub number: u32,
     pub from: u32,
     pub to: u32,
-    pub first: u8,
-    pub second: u8,
+    pub first: u32,
+    pub second: u32,
 }
 
 // Number 0, and how many bytes were written; or the refusal, and 0.
@@ -233,7 +236,15 @@ pub struct Valuation {
     pub value: i32,
 }
 
-fn numbered(number: u8) -> Numbers
+// The lengths of the edited source and of its listing.
+#[repr(C)]
+pub struct Patching {
+    pub refusal: Numbers,
+    pub source: usize,
+    pub listing: usize,
+}
+
+fn numbered(number: u32) -> Numbers
     ensures { λ r. ⌜ r ≡ readings.numbered number ⌝ }
 {
     Numbers {
@@ -343,6 +354,41 @@ pub extern "C" fn laqhoncu_token_read(source: &[u8], place: usize) -> TokenReadi
 {
     let a = reader::token_read(source, place);
     token_reading(a)
+}
+
+fn patching_of(a: PatchAnswer) -> Patching
+    ensures { λ r. ⌜ r ≡ patching a ⌝ }
+{
+    match a {
+        PatchAnswer::Written(s, l) => Patching {
+            refusal: numbered(0),
+            source: s,
+            listing: l,
+        },
+        PatchAnswer::Refused(r) => Patching {
+            refusal: numbers_of(r),
+            source: 0,
+            listing: 0,
+        },
+    }
+}
+
+// The line that begins at a place of the old source exchanged for a text: the edited source in `source` and its listing in `out`.
+#[no_mangle]
+pub extern "C" fn laqhoncu_patch(
+    old: &[u8],
+    listing: &[u8],
+    place: usize,
+    text: &[u8],
+    source: &mut [u8],
+    out: &mut [u8],
+) -> Patching
+    ensures answer { λ r. ⌜ r ≡ patching (patchAnswer (patchCall operations (now (old .entry)) (now (listing .entry)) place (now (text .entry)) (length (now (source .entry))) (length (now (out .entry))))) ⌝ }
+    ensures source { λ _. ⌜ now (source .exit) ≡ patchSource (patchCall operations (now (old .entry)) (now (listing .entry)) place (now (text .entry)) (length (now (source .entry))) (length (now (out .entry)))) (now (source .entry)) ⌝ }
+    ensures listing { λ _. ⌜ now (out .exit) ≡ patchListing (patchCall operations (now (old .entry)) (now (listing .entry)) place (now (text .entry)) (length (now (source .entry))) (length (now (out .entry)))) (now (out .entry)) ⌝ }
+{
+    let a = patch::patch(old, listing, place, text, source, out);
+    patching_of(a)
 }
 
 fn valuation_of(e: Evaluated) -> Valuation

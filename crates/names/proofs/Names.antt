@@ -14,20 +14,12 @@ use Rattle.names.specs.declared.Name.the-variants as name
 use Rattle.names.specs.declared.Directive.{Directive}
 use Rattle.names.specs.declared.Directive.the-variants as directive
 use Rattle.names.specs.Names.{registers, segments, sizes, directives, placeFrom, named, nameFrom, nameOf, directiveFrom, directiveOf}
-use Rattle.names.specs.Keys.{key, keyOf, spelled}
+use Rattle.names.specs.Keys.{key, keyOf, spelled, keysOf, placeOf, nameBy, directiveBy}
 use Rattle.names.proofs.Keys.{Bytes, both, by-key, lower-small}
 
 abbrev allSpelled : List String → Bool
 allSpelled [] = true
 allSpelled (s ∷ ss) = spelled (bytes s) && allSpelled ss
-
-abbrev pub keysOf : List String → List ℕ
-keysOf [] = []
-keysOf (s ∷ ss) = key (bytes s) ∷ keysOf ss
-
-abbrev pub placeOf : ℕ → ℕ → List ℕ → Option ℕ
-placeOf n x [] = none
-placeOf n x (k ∷ ks) = let r : Option ℕ = placeOf (suc n) x ks in if eqb x k then some n else r
 
 by-keys : (v : List ℕ) → ((i : ℕ) → getD v i 0 < 256) → (n : ℕ) (names : List String) → T (allSpelled names) → placeFrom n v names ≡ placeOf n (keyOf v) (keysOf names)
 unfolding placeFrom
@@ -47,36 +39,35 @@ away P x n (k ∷ ks) a =
     let r = away (P × (x ≡ k → ⊥)) x (suc n) ks a in
     (r .0 .0, rw (ne-eqb x k (r .0 .1)) (r .1))
 
--- what a key names
-abbrev pub nameBy : ℕ → Name
-nameBy x = nameFrom (placeOf 0 x (keysOf registers)) (placeOf 0 x (keysOf segments)) (placeOf 0 x (keysOf sizes))
+-- the arm of a key k, and the last arm
+pub name-at : {x k : ℕ} → x ≡ k → nameBy k ≡ nameBy x
+name-at e = ap nameBy (sym e)
 
-abbrev pub directiveBy : ℕ → Directive
-directiveBy x = directiveFrom (placeOf 0 x (keysOf directives))
+pub name-away : (x : ℕ) → Away (Away (Away (Unit {0}) x (keysOf registers)) x (keysOf segments)) x (keysOf sizes) → name.Other ≡ nameBy x
+unfolding registers segments sizes
+name-away x a =
+    let z = away (Away (Away (Unit {0}) x (keysOf registers)) x (keysOf segments)) x 0 (keysOf sizes) a in
+    let y = away (Away (Unit {0}) x (keysOf registers)) x 0 (keysOf segments) (z .0) in
+    let r = away (Unit {0}) x 0 (keysOf registers) (y .0) in
+    sym (rw (r .1, y .1, z .1))
 
+pub directive-at : {x k : ℕ} → x ≡ k → directiveBy k ≡ directiveBy x
+directive-at e = ap directiveBy (sym e)
+
+pub directive-away : (x : ℕ) → Away (Unit {0}) x (keysOf directives) → directive.Other ≡ directiveBy x
+unfolding directives
+directive-away x a = sym (rw (away (Unit {0}) x 0 (keysOf directives) a .1))
+
+-- a word names what its key names
 module _ (w : List ℕ) (small : Bytes w) where
   place : (names : List String) → T (allSpelled names) → named names w ≡ placeOf 0 (keyOf (map lower w)) (keysOf names)
   unfolding named
   place names t = by-keys (map lower w) (lower-small w small) 0 names t
 
-  module _ {x : ℕ} (e : x ≡ keyOf (map lower w)) where
-    -- the arm of a key k, and the last arm
-    pub name-at : {k : ℕ} → x ≡ k → nameBy k ≡ nameOf w
-    unfolding registers segments sizes bytes all spelled
-    name-at q = ap nameBy (sym q ∙ e) ∙ sym (rw (place registers tt, place segments tt, place sizes tt))
+  pub names-by : {x : ℕ} → x ≡ keyOf (map lower w) → nameBy x ≡ nameOf w
+  unfolding registers segments sizes bytes all spelled
+  names-by e = ap nameBy e ∙ sym (rw (place registers tt, place segments tt, place sizes tt))
 
-    pub name-away : Away (Away (Away (Unit {0}) x (keysOf registers)) x (keysOf segments)) x (keysOf sizes) → name.Other ≡ nameOf w
-    unfolding registers segments sizes bytes all spelled
-    name-away a =
-        let z = away (Away (Away (Unit {0}) x (keysOf registers)) x (keysOf segments)) x 0 (keysOf sizes) a in
-        let y = away (Away (Unit {0}) x (keysOf registers)) x 0 (keysOf segments) (z .0) in
-        let r = away (Unit {0}) x 0 (keysOf registers) (y .0) in
-        sym (rw (place registers tt, place segments tt, place sizes tt, ← e, r .1, y .1, z .1))
-
-    pub directive-at : {k : ℕ} → x ≡ k → directiveBy k ≡ directiveOf w
-    unfolding directives bytes all spelled
-    directive-at q = ap directiveBy (sym q ∙ e) ∙ sym (rw (place directives tt))
-
-    pub directive-away : Away (Unit {0}) x (keysOf directives) → directive.Other ≡ directiveOf w
-    unfolding directives bytes all spelled
-    directive-away a = sym (rw (place directives tt, ← e, away (Unit {0}) x 0 (keysOf directives) a .1))
+  pub directs-by : {x : ℕ} → x ≡ keyOf (map lower w) → directiveBy x ≡ directiveOf w
+  unfolding directives bytes all spelled
+  directs-by e = ap directiveBy e ∙ sym (rw (place directives tt))

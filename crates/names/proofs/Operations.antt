@@ -5,11 +5,11 @@ use mathlib.Core.List.{List}
 use Prim.Native.Nat.{ℕ}
 use Rattle.lexer.specs.Text.{bytes, run, all}
 use Rattle.names.specs.Table.{spellings, row, rowsOf, operations}
-use Rattle.names.specs.Names.{spelling}
-use Rattle.names.specs.Keys.{key, spelled, goodFrom, goodTable}
+use Rattle.names.specs.Names.{spelling, directives}
+use Rattle.names.specs.Keys.{key, spelled, goodFrom, apartFrom, goodTable}
 
 pub operations-good : goodTable operations ≡ true
-unfolding bytes run all spellings row rowsOf operations spelling key spelled goodFrom goodTable
+unfolding bytes run all spellings row rowsOf operations spelling directives key spelled goodFrom apartFrom goodTable
 operations-good = refl
 
 -- for a caller that has made the table

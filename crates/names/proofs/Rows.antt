@@ -10,9 +10,11 @@ use lib.Dec.{T, eqb, ltb, eqb→eq, ltb→lt}
 use lib.ListN.{getD, drop}
 use lib.Seq.{getD-drop, drop-drop}
 use borrow.Author.Tests.{eq-eqb, ne-eqb}
-use Rattle.lexer.specs.Text.{if_then_else_, lower, same}
-use Rattle.names.specs.Names.{spelling, operationFrom, operationNamed}
-use Rattle.names.specs.Keys.{key, keyAt, keyOf, spelled, goodFrom, goodTable}
+use Rattle.lexer.specs.Text.{if_then_else_, maybe, lower, same}
+use Rattle.names.specs.declared.Directive.{Directive}
+use Rattle.names.specs.declared.Directive.the-variants as directive
+use Rattle.names.specs.Names.{directives, directiveFrom, spelling, operationFrom, operationNamed}
+use Rattle.names.specs.Keys.{key, keyAt, keyOf, spelled, keysOf, placeOf, directiveBy, operationFromKey, operationBy, goodFrom, apartFrom, goodTable}
 use Rattle.names.proofs.Keys.{Bytes, both, by-key, lower-small}
 
 -- the first of n + 1 good rows
@@ -47,48 +49,89 @@ rise (suc n) p t g zero (suc j) l h = rw (next t j) (above n (key t) (drop 8 t) 
 rise (suc n) p t g (suc i) (suc j) l h =
     rw (next t i, next t j) (rise n (key t) (drop 8 t) (good n p t g .more) i j (le-of-suc-le-suc l) (le-of-suc-le-suc h))
 
-pub rising : (t : List ℕ) → goodTable t ≡ true → (i j : ℕ) → i < j → j < 117 → keyAt t i < keyAt t j
-unfolding goodTable
-rising t e = rise 117 0 t (subst T (sym e) tt)
+-- the two tests of a good table
+module _ (t : List ℕ) (g : goodTable t ≡ true) where
+  tests : T (goodFrom 117 0 t) × T (apartFrom 117 t)
+  unfolding goodTable
+  tests = both (goodFrom 117 0 t) (apartFrom 117 t) (subst T (sym g) tt)
 
-module _ (v : List ℕ) (small : (i : ℕ) → getD v i 0 < 256) where
-  row : (n p : ℕ) (t : List ℕ) → Good n p t → same v (spelling t) ≡ eqb (keyOf v) (key t)
-  row n p t r = by-key v small (spelling t) (r .letters) ∙ ap (eqb (keyOf v)) (sym (r .filled))
+  pub rising : (i j : ℕ) → i < j → j < 117 → keyAt t i < keyAt t j
+  rising = rise 117 0 t (tests .0)
 
-  other : (n p : ℕ) (t : List ℕ) → Good n p t → (keyOf v ≡ key t → ⊥) → operationFrom (suc n) v t ≡ operationFrom n v (drop 8 t)
-  unfolding operationFrom
-  other n p t r differs = rw (row n p t r ∙ ne-eqb (keyOf v) (key t) differs)
+  -- no row has the key 0
+  pub positive : (k : ℕ) → k < 117 → 0 < keyAt t k
+  positive = above 117 0 t (tests .0)
 
-  absent : (n p : ℕ) (t : List ℕ) → T (goodFrom n p t) → ((k : ℕ) → k < n → keyAt t k ≡ keyOf v → ⊥) → operationFrom n v t ≡ none
-  unfolding operationFrom
-  absent zero p t g none-has = refl
-  absent (suc n) p t g none-has =
-      let r = good n p t g in
-      other n p t r (λ e. none-has 0 (omega arith) (sym e))
-      ∙ absent n (key t) (drop 8 t) (r .more) (λ k h e. none-has (suc k) (suc-le-suc h) (next t k ∙ e))
+-- What is found by a key.
+module _ (x : ℕ) where
+  absent : (n : ℕ) (t : List ℕ) → ((k : ℕ) → k < n → keyAt t k ≡ x → ⊥) → operationFromKey n x t ≡ none
+  unfolding operationFromKey
+  absent zero t none-has = refl
+  absent (suc n) t none-has =
+      rw (ne-eqb x (key t) (λ e. none-has 0 (omega arith) (sym e)), absent n (drop 8 t) (λ k h e. none-has (suc k) (suc-le-suc h) (next t k ∙ e)))
 
-  present : (n p : ℕ) (t : List ℕ) → T (goodFrom n p t) → (k : ℕ) → k < n → keyAt t k ≡ keyOf v → operationFrom n v t ≡ some (getD t (8 * k + 7) 0)
-  unfolding operationFrom
+  present : (n p : ℕ) (t : List ℕ) → T (goodFrom n p t) → (k : ℕ) → k < n → keyAt t k ≡ x → operationFromKey n x t ≡ some (getD t (8 * k + 7) 0)
+  unfolding operationFromKey
   present zero p t g k h e = absurd (not-suc-le-zero h)
-  present (suc n) p t g zero h e = rw (row n p t (good n p t g) ∙ eq-eqb (keyOf v) (key t) (sym e))
+  present (suc n) p t g zero h e = rw (eq-eqb x (key t) (sym e))
   present (suc n) p t g (suc k) h e =
-      let r = good n p t g in
       let l : keyAt t 0 < keyAt t (suc k) = rise (suc n) p t g 0 (suc k) (omega arith) h in
       let m : 8 + (8 * k + 7) ≡ 8 * suc k + 7 = omega arith in
-      other n p t r (λ q. omega arith)
-      ∙ present n (key t) (drop 8 t) (r .more) k (le-of-suc-le-suc h) (sym (next t k) ∙ e)
-      ∙ ap some (getD-drop 8 t (8 * k + 7) 0 ∙ ap (λ (i : ℕ). getD t i 0) m)
+      rw (ne-eqb x (key t) (λ q. omega arith))
+      (present n (key t) (drop 8 t) (good n p t g .more) k (le-of-suc-le-suc h) (sym (next t k) ∙ e)
+      ∙ ap some (getD-drop 8 t (8 * k + 7) 0 ∙ ap (λ (i : ℕ). getD t i 0) m))
 
--- A word that is looked up in a good table: k is the one row that may have its key.
-module _ (t : List ℕ) (g : goodTable t ≡ true) (w : List ℕ) (small : Bytes w) (k : ℕ) (h : k < 117) where
-  pub there : keyAt t k ≡ keyOf (map lower w) → some (getD t (8 * k + 7) 0) ≡ operationNamed t w
-  unfolding goodTable operationNamed
-  there e = sym (present (map lower w) (lower-small w small) 117 0 t (subst T (sym g) tt) k h e)
+-- A key that is looked up in a good table.
+module _ (t : List ℕ) (g : goodTable t ≡ true) (x : ℕ) where
+  -- k is the one row that may have it
+  module _ (k : ℕ) (h : k < 117) where
+    pub there : keyAt t k ≡ x → some (getD t (8 * k + 7) 0) ≡ operationBy t x
+    unfolding operationBy
+    there e = sym (present x 117 0 t (tests t g .0) k h e)
 
-  pub nowhere :
-      ((i : ℕ) → i < 117 → keyAt t i ≡ keyOf (map lower w) → i ≡ k)
-      → (keyAt t k ≡ keyOf (map lower w) → ⊥)
-      → none ≡ operationNamed t w
-  unfolding goodTable operationNamed
-  nowhere only differs =
-      sym (absent (map lower w) (lower-small w small) 117 0 t (subst T (sym g) tt) (λ i l e. differs (ap (keyAt t) (sym (only i l e)) ∙ e)))
+    pub nowhere : ((i : ℕ) → i < 117 → keyAt t i ≡ x → i ≡ k) → (keyAt t k ≡ x → ⊥) → none ≡ operationBy t x
+    unfolding operationBy
+    nowhere only differs = sym (absent x 117 t (λ i l e. differs (ap (keyAt t) (sym (only i l e)) ∙ e)))
+
+  pub null-key : x ≡ 0 → none ≡ operationBy t x
+  unfolding operationBy
+  null-key z = sym (absent x 117 t (λ k h e. let l : 0 < keyAt t k = positive t g k h in omega arith))
+
+-- A word names the operation of its key.
+module _ (v : List ℕ) (small : (i : ℕ) → getD v i 0 < 256) where
+  same-rows : (n p : ℕ) (t : List ℕ) → T (goodFrom n p t) → operationFromKey n (keyOf v) t ≡ operationFrom n v t
+  unfolding operationFrom operationFromKey
+  same-rows zero p t g = refl
+  same-rows (suc n) p t g =
+      let r = good n p t g in
+      rw (by-key v small (spelling t) (r .letters) ∙ ap (eqb (keyOf v)) (sym (r .filled)), same-rows n (key t) (drop 8 t) (r .more))
+
+pub operates-by : (t : List ℕ) → goodTable t ≡ true → (w : List ℕ) → Bytes w → {x : ℕ} → x ≡ keyOf (map lower w) → operationBy t x ≡ operationNamed t w
+unfolding operationBy operationNamed
+operates-by t g w small e = ap (operationBy t) e ∙ same-rows (map lower w) (lower-small w small) 117 0 t (tests t g .0)
+
+-- No directive is an operation.
+free : (n : ℕ) (t : List ℕ) → T (apartFrom n t) → (k : ℕ) → k < n → T (maybe (placeOf 0 (keyAt t k) (keysOf directives)) true (λ d. false))
+unfolding apartFrom
+free zero t a k h = absurd (not-suc-le-zero h)
+free (suc n) t a zero h = both (maybe (placeOf 0 (key t) (keysOf directives)) true (λ d. false)) (apartFrom n (drop 8 t)) a .0
+free (suc n) t a (suc k) h =
+    rw (next t k)
+    (free n (drop 8 t) (both (maybe (placeOf 0 (key t) (keysOf directives)) true (λ d. false)) (apartFrom n (drop 8 t)) a .1) k (le-of-suc-le-suc h))
+
+-- what is a directive
+abbrev pub Directs : Directive → Type 0
+Directs directive.Equ = Unit {0}
+Directs directive.Db = Unit {0}
+Directs directive.Dw = Unit {0}
+Directs directive.Times = Unit {0}
+Directs directive.Other = ⊥
+
+pub directive-apart : (t : List ℕ) → goodTable t ≡ true → (x : ℕ) → Directs (directiveBy x) → none ≡ operationBy t x
+unfolding operationBy
+directive-apart t g x d =
+    sym (absent x 117 t (λ k h q. by (placeOf 0 x (keysOf directives)) d (subst (λ (i : ℕ). T (maybe (placeOf 0 i (keysOf directives)) true (λ (n : ℕ). false))) q (free 117 t (tests t g .1) k h))))
+  where
+    by : (o : Option ℕ) → Directs (directiveFrom o) → T (maybe o true (λ (n : ℕ). false)) → ⊥
+    by none p q = p
+    by (some n) p q = q

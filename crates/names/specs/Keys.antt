@@ -1,11 +1,15 @@
 -- Keys: seven letters as one number, the first highest, so that the keys of rows in rising order rise. A word is looked up by its key.
 use mathlib.Core.Bool.{Bool, true, false, not, _&&_}
 use mathlib.Core.List.{List, [], _∷_}
+use mathlib.Core.Option.{Option, none, some}
 use Prim.Native.Nat.{ℕ, zero, suc, _+_, _*_, _-_}
 use lib.Dec.{eqb, leb, ltb}
 use lib.ListN.{length, getD, drop}
-use Rattle.lexer.specs.Text.{if_then_else_, all}
-use Rattle.names.specs.Names.{spelling}
+use Prim.Native.String.{String}
+use Rattle.lexer.specs.Text.{if_then_else_, maybe, bytes, all}
+use Rattle.names.specs.declared.Name.{Name}
+use Rattle.names.specs.declared.Directive.{Directive}
+use Rattle.names.specs.Names.{spelling, registers, segments, sizes, directives, nameFrom, directiveFrom}
 
 -- n bytes of s as one number behind a; past the end of s they are 0
 abbrev pub joined : ℕ → ℕ → List ℕ → ℕ
@@ -32,6 +36,32 @@ keyAt table k = key (drop (8 * k) table)
 unfoldable pub keyOf : List ℕ → ℕ
 keyOf w = if leb (length w) 7 && not (eqb (getD w (length w - 1) 0) 0) then key w else 0
 
+-- The place of a key among those of names, of which the first has the number n.
+abbrev pub keysOf : List String → List ℕ
+keysOf [] = []
+keysOf (s ∷ ss) = key (bytes s) ∷ keysOf ss
+
+abbrev pub placeOf : ℕ → ℕ → List ℕ → Option ℕ
+placeOf n x [] = none
+placeOf n x (k ∷ ks) = let r : Option ℕ = placeOf (suc n) x ks in if eqb x k then some n else r
+
+-- what a key names
+abbrev pub nameBy : ℕ → Name
+nameBy x = nameFrom (placeOf 0 x (keysOf registers)) (placeOf 0 x (keysOf segments)) (placeOf 0 x (keysOf sizes))
+
+abbrev pub directiveBy : ℕ → Directive
+directiveBy x = directiveFrom (placeOf 0 x (keysOf directives))
+
+-- the operation of the first row that has a key
+unfoldable pub operationFromKey : ℕ → ℕ → List ℕ → Option ℕ
+operationFromKey zero x table = none
+operationFromKey (suc n) x table =
+    let r : Option ℕ = operationFromKey n x (drop 8 table) in
+    if eqb x (key table) then some (getD table 7 0) else r
+
+unfoldable pub operationBy : List ℕ → ℕ → Option ℕ
+operationBy table x = operationFromKey 117 x table
+
 -- What may be looked up by its key: one to seven letters, each a byte and not zero.
 unfoldable pub spelled : List ℕ → Bool
 spelled s = ltb 0 (length s) && leb (length s) 7 && all (λ c. ltb 0 c && ltb c 256) s
@@ -42,6 +72,11 @@ goodFrom zero k table = true
 goodFrom (suc n) k table =
     ltb k (key table) && spelled (spelling table) && eqb (key table) (key (spelling table)) && goodFrom n (key table) (drop 8 table)
 
--- a table of spellings in rising order, free of repeats
+-- n rows none of which spells a directive
+unfoldable pub apartFrom : ℕ → List ℕ → Bool
+apartFrom zero table = true
+apartFrom (suc n) table = maybe (placeOf 0 (key table) (keysOf directives)) true (λ d. false) && apartFrom n (drop 8 table)
+
+-- a table of spellings in rising order, free of repeats and of directives
 unfoldable pub goodTable : List ℕ → Bool
-goodTable table = goodFrom 117 0 table
+goodTable table = goodFrom 117 0 table && apartFrom 117 table

@@ -4,7 +4,7 @@ ghost use mathlib.Core.Path.{_≡_};
 ghost use mathlib.Core.Bool.{true};
 ghost use mathlib.Core.List.{[], _∷_, map};
 ghost use Prim.Native.Nat.{ℕ, _+_, _*_, _<_};
-ghost use lib.ListN.{getD};
+ghost use lib.ListN.{length, getD};
 ghost use Rattle.lexer.specs.Text as text;
 ghost use Rattle.names.specs.Table.{operations};
 ghost use Rattle.names.specs.Names.{operationNamed, foundOf, nameOf, directiveOf};
@@ -170,14 +170,16 @@ fn lower(c: u8) -> u8
     c + 32
 }
 
-// The letter at a place of a word, in lower case, and 0 past its end.
+// The letter at a place of a word that has letters, in lower case, and 0 past its end. A letter is read in any case, so that no
+// branch hangs on the word's length.
 fn letter_at(word: &[u8], i: usize) -> u8
+    requires { ⌜ 0 < length (now word) ⌝ }
     ensures { λ r. ⌜ r ≡ getD (map text.lower (now (word .entry))) i 0 ⌝ }
 {
-    if i < word.len() {
-        return lower(word[i]);
-    }
-    0
+    let n = word.len();
+    let place = if i < n { i } else { 0 };
+    let letter = lower(word[place]);
+    if i < n { letter } else { 0 }
 }
 
 // Eight bytes as one number, the first highest. In this form the reads of a row become one.
@@ -196,6 +198,7 @@ fn joined(a: u8, b: u8, c: u8, d: u8, e: u8, f: u8, g: u8, h: u8) -> u64
 
 // The first seven letters of a word as one number.
 fn letters(word: &[u8]) -> u64
+    requires { ⌜ 0 < length (now word) ⌝ }
     ensures { λ r. ⌜ r ≡ keys.seven (map text.lower (now (word .entry))) ⌝ }
 {
     joined(
@@ -211,8 +214,8 @@ fn letters(word: &[u8]) -> u64
 }
 
 // The key of a word, or 0 where the word can be no name: it is empty, has more than seven letters or ends in a zero.
-fn word_key(word: &[u8]) -> u64
-    ensures { λ r. ⌜ r ≡ keys.keyOf (map text.lower (now (word .entry))) ⌝ }
+pub fn word_key(word: &[u8]) -> u64
+    ensures { λ r. ⌜ (r ≡ keys.keyOf (map text.lower (now (word .entry)))) × (r < 0x100_0000_0000_0000) ⌝ }
 {
     if word.len() < 1 {
         return 0;
@@ -263,12 +266,14 @@ fn search(table: &[u8; 936], key: u64) -> usize
     row
 }
 
-// The operation that a word names by a table whose rows are spellings in rising order.
-pub fn operation(table: &[u8; 936], word: &[u8]) -> Found
-    requires { ⌜ keys.goodTable (now table) ≡ true ⌝ }
-    ensures { λ r. ⌜ r ≡ foundOf (operationNamed (now (table .entry)) (now (word .entry))) ⌝ }
+// The operation of a key by a table whose rows are spellings in rising order.
+pub fn operation_by(table: &[u8; 936], key: u64) -> Found
+    requires { ⌜ (keys.goodTable (now table) ≡ true) × (key < 0x100_0000_0000_0000) ⌝ }
+    ensures { λ r. ⌜ r ≡ foundOf (keys.operationBy (now (table .entry)) key) ⌝ }
 {
-    let key = word_key(word);
+    if key == 0 {
+        return Found::Nothing;
+    }
     let row = row_at(table, search(table, key));
     if row / 256 == key {
         return Found::Operation((row % 256) as u8);
@@ -276,11 +281,20 @@ pub fn operation(table: &[u8; 936], word: &[u8]) -> Found
     Found::Nothing
 }
 
-// The register, segment or size that a word names.
-pub fn name_of(word: &[u8]) -> Name
-    ensures { λ r. ⌜ r ≡ nameOf (now (word .entry)) ⌝ }
+// The operation that a word names.
+pub fn operation(table: &[u8; 936], word: &[u8]) -> Found
+    requires { ⌜ keys.goodTable (now table) ≡ true ⌝ }
+    ensures { λ r. ⌜ r ≡ foundOf (operationNamed (now (table .entry)) (now (word .entry))) ⌝ }
 {
-    match word_key(word) {
+    let key = word_key(word);
+    operation_by(table, key)
+}
+
+// The register, segment or size of a key.
+pub fn name_by(key: u64) -> Name
+    ensures { λ r. ⌜ r ≡ keys.nameBy key ⌝ }
+{
+    match key {
         0x61_6c00_0000_0000 => Name::Register(0), // al
         0x63_6c00_0000_0000 => Name::Register(1), // cl
         0x64_6c00_0000_0000 => Name::Register(2), // dl
@@ -307,15 +321,31 @@ pub fn name_of(word: &[u8]) -> Name
     }
 }
 
-// The directive that a word names.
-pub fn directive_of(word: &[u8]) -> Directive
-    ensures { λ r. ⌜ r ≡ directiveOf (now (word .entry)) ⌝ }
+// The register, segment or size that a word names.
+pub fn name_of(word: &[u8]) -> Name
+    ensures { λ r. ⌜ r ≡ nameOf (now (word .entry)) ⌝ }
 {
-    match word_key(word) {
+    let key = word_key(word);
+    name_by(key)
+}
+
+// The directive of a key.
+pub fn directive_by(key: u64) -> Directive
+    ensures { λ r. ⌜ r ≡ keys.directiveBy key ⌝ }
+{
+    match key {
         0x65_7175_0000_0000 => Directive::Equ, // equ
         0x64_6200_0000_0000 => Directive::Db, // db
         0x64_7700_0000_0000 => Directive::Dw, // dw
         0x74_696d_6573_0000 => Directive::Times, // times
         _ => Directive::Other,
     }
+}
+
+// The directive that a word names.
+pub fn directive_of(word: &[u8]) -> Directive
+    ensures { λ r. ⌜ r ≡ directiveOf (now (word .entry)) ⌝ }
+{
+    let key = word_key(word);
+    directive_by(key)
 }

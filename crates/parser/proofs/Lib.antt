@@ -5,6 +5,7 @@ pub mod Steps
 pub mod ExpressionsReading
 pub mod ExpressionsEvaluate
 pub mod ExpressionsShorter
+pub mod Keyed
 pub mod OperandLaws
 pub mod StatementsLines
 pub mod StatementsForms

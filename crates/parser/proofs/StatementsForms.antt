@@ -1,7 +1,7 @@
 -- The forms of a statement: what its first word says, and how each is read behind that word.
 -- Assumes nothing.
 use Prim.Native.Nat.{ℕ, suc}
-use mathlib.Core.Path.{_≡_, refl, sym, ap, _∙_}
+use mathlib.Core.Path.{_≡_, refl, sym, ap, subst, _∙_}
 use mathlib.Core.List.{List, [], map}
 use mathlib.Core.Bool.{Bool, true, false, _||_}
 use mathlib.Core.Option.{Option, none, some}
@@ -12,6 +12,10 @@ use Rattle.names.specs.declared.Found.{Found}
 use Rattle.names.specs.declared.Found.the-variants as found
 use Rattle.names.specs.declared.Directive.{Directive}
 use Rattle.names.specs.declared.Directive.the-variants as directive
+use Rattle.names.specs.Keys.{keyOf, operationBy, directiveBy, goodTable}
+use Rattle.names.proofs.Keys.{Bytes}
+use Rattle.names.proofs.Names.{directs-by}
+use Rattle.names.proofs.Rows.{operates-by, Directs, directive-apart}
 use Rattle.rules.specs.Lexemes.{Kind, word, Lexeme, nameIn, operationIn}
 use Rattle.rules.specs.Lexemes.{textOf as wordOf}
 use Rattle.rules.specs.Records.{LL, LI, LT, encode}
@@ -27,6 +31,7 @@ use Rattle.parser.specs.Views.{line as inside}
 use Rattle.parser.proofs.Chain.{after-nil, Sofar, starts, becomes, comes, called, called-denied, ends, lifts-comes, lifts-denied, denied, refuses, refuses-here, writes, returns, is-kind}
 use Rattle.parser.proofs.StatementsLines.{end-is}
 use Rattle.parser.proofs.Flat.{by-kind, mark-is}
+use Rattle.parser.proofs.Keyed.{text-bytes}
 
 -- past the word that a statement begins with
 module _ {s : List ℕ} {p : Parser} (m : Reader State (Unit {0})) where
@@ -136,12 +141,29 @@ module _ (table s : List ℕ) (p : Parser) (t : Reader State (Unit {0})) where
 
     -- by the code's answers to the word's text w
     module _ {w : List ℕ} (h : w ≡ text) {o : Found} (i : o ≡ foundOf (operationNamed table w)) where
-      pub line-operation : {op : ℕ} → o ≡ found.Operation op → line table t (stateOf s p) ≡ passing (instruction (hereOf s p) op) (stateOf s p)
+      line-operation : {op : ℕ} → o ≡ found.Operation op → line table t (stateOf s p) ≡ passing (instruction (hereOf s p) op) (stateOf s p)
       line-operation {op} j = line-word ∙ ap (λ (f : Option ℕ). choice t (hereOf s p) f (named directives text) true (stateOf s p)) (found-some (operationNamed table text) op (ap (λ (v : List ℕ). foundOf (operationNamed table v)) (sym h) ∙ sym i ∙ j))
 
-      pub line-directive : o ≡ found.Nothing → {d e : Directive} → d ≡ directiveOf w → d ≡ e → line table t (stateOf s p) ≡ choice t (hereOf s p) none (directiveNumber e) true (stateOf s p)
+      line-directive : o ≡ found.Nothing → {d e : Directive} → d ≡ directiveOf w → d ≡ e → line table t (stateOf s p) ≡ choice t (hereOf s p) none (directiveNumber e) true (stateOf s p)
       line-directive j k q = line-word ∙ ap (λ (f : Option ℕ). choice t (hereOf s p) f (named directives text) true (stateOf s p)) (found-none (operationNamed table text) (ap (λ (v : List ℕ). foundOf (operationNamed table v)) (sym h) ∙ sym i ∙ j))
           ∙ ap (λ (f : Option ℕ). choice t (hereOf s p) none f true (stateOf s p)) (directive-is text ∙ ap directiveNumber (ap directiveOf (sym h) ∙ sym k ∙ q))
+
+    -- by the answers to the key x of that text; a directive is asked for first, and is no operation
+    module _ (good : goodTable table ≡ true) (small : Bytes s) {w : List ℕ} (h : w ≡ text) {x : ℕ} (i : x ≡ keyOf (map lower w)) where
+      found-by : operationBy table x ≡ operationNamed table w
+      found-by = operates-by table good w (text-bytes s small (p .«token_start») (p .pos) h) i
+
+      directive-by : directiveBy x ≡ directiveOf w
+      directive-by = directs-by w (text-bytes s small (p .«token_start») (p .pos) h) i
+
+      pub key-operation : {o : Found} → o ≡ foundOf (operationBy table x) → {op : ℕ} → o ≡ found.Operation op → line table t (stateOf s p) ≡ passing (instruction (hereOf s p) op) (stateOf s p)
+      key-operation k j = line-operation h (k ∙ ap foundOf found-by) j
+
+      pub key-directive : {d e : Directive} → d ≡ directiveBy x → d ≡ e → Directs e → line table t (stateOf s p) ≡ choice t (hereOf s p) none (directiveNumber e) true (stateOf s p)
+      key-directive k q n = line-directive h (ap foundOf (directive-apart table good x (subst Directs (sym q ∙ k) n) ∙ found-by)) refl (k ∙ directive-by) q
+
+      pub key-label : {o : Found} → o ≡ foundOf (operationBy table x) → o ≡ found.Nothing → {d e : Directive} → d ≡ directiveBy x → d ≡ e → line table t (stateOf s p) ≡ choice t (hereOf s p) none (directiveNumber e) true (stateOf s p)
+      key-label j n k q = line-directive h (j ∙ ap foundOf found-by) n (k ∙ directive-by) q
 
   -- a token that is no word is 20
   no-word : (k v : ℕ) (w : List ℕ) → eqb k 97 ≡ false → wordOf (kindBy k v w) ≡ none

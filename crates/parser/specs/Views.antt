@@ -19,6 +19,10 @@ use Rattle.parser.specs.declared.state.Step.the-variants.{Ahead, Stopped
 use Rattle.parser.specs.declared.state.Parsed.{Parsed}
 use Rattle.parser.specs.declared.state.Parsed.the-variants.{Done, Refused}
 
+-- a state from its numbers
+abbrev pub parserOf : (pos start last kind value : ℕ) → Parser
+parserOf e a l k v = record { pos = e; «token_start» = a; «last_token_end» = l; kind = k; value = v }
+
 -- Document 01's number and values of a refusal. A register not there is 255.
 abbrev pub numbersOf : Cause → Refusal
 numbersOf (at n f t) = record { number = n; from = f; to = t; first = 255; second = 255 }

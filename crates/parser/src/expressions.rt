@@ -11,9 +11,20 @@ ghost use Rattle.rules.specs.Lexemes.{number, mark};
 ghost use Rattle.rules.specs.Evaluate.{signed32};
 ghost use Rattle.rules.specs.Evaluate.{evaluate as exactly};
 ghost use Rattle.parser.specs.Operators.{operatorNumber, numberIn, prefixLevelOf, resultOf};
+use super::state::CLOSED;
+use super::state::CLOSING;
+use super::state::DOLLAR_SIGN;
+use super::state::MINUS;
+use super::state::NUMBER;
+use super::state::OPENING;
+use super::state::PLUS;
 use super::state::Parsed;
 use super::state::Parser;
+use super::state::SLASH;
+use super::state::STAR;
 use super::state::Step;
+use super::state::UNCLOSED;
+use super::state::WORD;
 use super::state::expect;
 use super::state::next;
 use super::state::refuse_here;
@@ -122,14 +133,14 @@ fn in_range(v: i64) -> Evaluated
 }
 
 // The operator whose character is the token's kind.
-pub fn operator_of(kind: u8) -> MaybeOperator
+pub fn operator_of(kind: u32) -> MaybeOperator
     ensures { λ r. ⌜ numberIn r ≡ rules.operatorOf (mark kind) ⌝ }
 {
     match kind {
-        b'+' => MaybeOperator::Is(Operator::Add),
-        b'-' => MaybeOperator::Is(Operator::Subtract),
-        b'*' => MaybeOperator::Is(Operator::Multiply),
-        b'/' => MaybeOperator::Is(Operator::Divide),
+        PLUS => MaybeOperator::Is(Operator::Add),
+        MINUS => MaybeOperator::Is(Operator::Subtract),
+        STAR => MaybeOperator::Is(Operator::Multiply),
+        SLASH => MaybeOperator::Is(Operator::Divide),
         _ => MaybeOperator::Not,
     }
 }
@@ -156,7 +167,7 @@ fn primary(src: &[u8], out: &mut [u8], at: u32, p: Parser, deeper: u32) -> Parse
     ensures { λ r. ⌜ Reads line (now (src .entry)) p (rules.primary (rules.expr deeper)) at (now (out .entry)) (now (out .exit)) r ⌝ }
 {
     let kind = p.kind;
-    if kind == b'(' {
+    if kind == OPENING {
         return parenthesis(src, out, at, p, deeper);
     }
     match operator_of(kind) {
@@ -174,7 +185,7 @@ fn parenthesis(src: &[u8], out: &mut [u8], at: u32, p: Parser, deeper: u32) -> P
         Step::Stopped(r) => Parsed::Refused(r),
         Step::Ahead(q) => match expression(src, out, at, q, 0, deeper) {
             Parsed::Refused(r) => Parsed::Refused(r),
-            Parsed::Done(inner, w) => match expect(src, inner, b')', 14) {
+            Parsed::Done(inner, w) => match expect(src, inner, CLOSING, 14) {
                 Step::Stopped(r) => Parsed::Refused(r),
                 Step::Ahead(after) => Parsed::Done(after, w),
             },
@@ -265,11 +276,11 @@ fn atom(src: &[u8], out: &mut [u8], at: u32, p: Parser) -> Parsed
 {
     let kind = p.kind;
     match kind {
-        b'0' => constant(src, out, at, p, p.value),
-        b'a' => name(src, out, at, p),
-        b'$' => dollar(src, out, at, p),
-        b'\'' => character(src, out, at, p),
-        b'"' => Parsed::Refused(refuse_here(p, 16)),
+        NUMBER => constant(src, out, at, p, p.value),
+        WORD => name(src, out, at, p),
+        DOLLAR_SIGN => dollar(src, out, at, p),
+        CLOSED => character(src, out, at, p),
+        UNCLOSED => Parsed::Refused(refuse_here(p, 16)),
         _ => Parsed::Refused(refuse_here(p, 21)),
     }
 }
@@ -324,7 +335,7 @@ fn dollar(src: &[u8], out: &mut [u8], at: u32, p: Parser) -> Parsed
     match next(src, p) {
         Step::Stopped(r) => Parsed::Refused(r),
         Step::Ahead(q) => {
-            if q.kind == b'$' {
+            if q.kind == DOLLAR_SIGN {
                 match next(src, q) {
                     Step::Stopped(r) => Parsed::Refused(r),
                     Step::Ahead(after) => {

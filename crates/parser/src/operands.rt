@@ -12,10 +12,17 @@ ghost use Rattle.parser.specs.Views.{hereOf, line, Reads};
 ghost use Rattle.parser.specs.Answers.{nameAt, registersOf, Looks, Finds, ReadsRegisters, Displaces, Names, ReadsOperands};
 ghost use Rattle.parser.specs.Parts as parts;
 use super::expressions::expression;
+use super::state::CLOSING_BRACKET;
+use super::state::COLON;
+use super::state::COMMA;
+use super::state::NUMBER;
+use super::state::OPENING_BRACKET;
+use super::state::PLUS;
 use super::state::Parsed;
 use super::state::Parser;
 use super::state::Refusal;
 use super::state::Step;
+use super::state::WORD;
 use super::state::expect;
 use super::state::is_line_end;
 use super::state::next;
@@ -71,8 +78,9 @@ const DI: u8 = 15;
 pub fn name_ahead(src: &[u8], p: Parser) -> Name
     ensures { λ r. ⌜ r ≡ nameAt (hereOf (now (src .entry)) p .kind) ⌝ }
 {
-    if p.kind == b'a' {
-        names::name_of(text(src, p))
+    if p.kind == WORD {
+        let key = names::word_key(text(src, p));
+        names::name_by(key)
     } else {
         Name::Other
     }
@@ -87,7 +95,7 @@ fn immediate_or_far(src: &[u8], out: &mut [u8], at: u32, p: Parser) -> Parsed
     match expression(src, out, at, p, 0, 32) {
         Parsed::Refused(r) => Parsed::Refused(r),
         Parsed::Done(q, w) => {
-            if q.kind == b':' {
+            if q.kind == COLON {
                 far(src, out, w, q, from)
             } else {
                 let to = q.last_token_end;
@@ -168,8 +176,8 @@ fn plus_index(src: &[u8], p: Parser, from: u32, r: u8) -> Looked
                 number: 25,
                 from: from,
                 to: q.pos,
-                first: r,
-                second: s,
+                first: r as u32,
+                second: s as u32,
             })
         }
     }
@@ -196,7 +204,7 @@ fn second(src: &[u8], p: Parser, from: u32, r: u8) -> Looked
     requires { ⌜ length (now src) ≤ 65536 ⌝ }
     ensures { λ a. ⌜ Looks (now (src .entry)) p (rules.second from r) a ⌝ }
 {
-    if p.kind == b'+' {
+    if p.kind == PLUS {
         return plus_index(src, p, from, r);
     }
     Looked::Found(p, alone(r))
@@ -234,7 +242,7 @@ fn registers_ahead(src: &[u8], p: Parser) -> RegistersRead
         number: 25,
         from: p.token_start,
         to: to,
-        first: r,
+        first: r as u32,
         second: 255,
     })
 }
@@ -244,7 +252,7 @@ fn displacement(src: &[u8], out: &mut [u8], at: u32, p: Parser) -> Displaced
     requires { ⌜ length (now src) ≤ 65536 ⌝ }
     ensures { λ r. ⌜ Displaces (now (src .entry)) p rules.displacement at (now (out .entry)) (now (out .exit)) r ⌝ }
 {
-    if p.kind == b']' {
+    if p.kind == CLOSING_BRACKET {
         return Displaced::Done(p, at, 0);
     }
     match expression(src, out, at, p, 0, 32) {
@@ -268,7 +276,7 @@ fn close(
     requires { ⌜ length (now src) ≤ 65536 ⌝ }
     ensures { λ r. ⌜ Reads line (now (src .entry)) p (rules.close from size segment (registersOf registers) has) at (now (out .entry)) (now (out .exit)) r ⌝ }
 {
-    match expect(src, p, b']', 13) {
+    match expect(src, p, CLOSING_BRACKET, 13) {
         Step::Stopped(r) => Parsed::Refused(r),
         Step::Ahead(q) => {
             let to = q.last_token_end;
@@ -308,7 +316,7 @@ fn segment_override(src: &[u8], p: Parser) -> Looked
     };
     match next(src, p) {
         Step::Stopped(r) => Looked::Stopped(r),
-        Step::Ahead(q) => match expect(src, q, b':', 12) {
+        Step::Ahead(q) => match expect(src, q, COLON, 12) {
             Step::Stopped(r) => Looked::Stopped(r),
             Step::Ahead(after) => Looked::Found(after, s + 1),
         },
@@ -344,10 +352,10 @@ fn memory(src: &[u8], out: &mut [u8], at: u32, p: Parser, size: u8) -> Parsed
         Step::Stopped(r) => Parsed::Refused(r),
         Step::Ahead(q) => {
             let kind = q.kind;
-            if kind == b'a' {
+            if kind == WORD {
                 return address(src, out, at, q, from, size);
             }
-            if kind == b'0' {
+            if kind == NUMBER {
                 return match expression(src, out, at, q, 0, 32) {
                     Parsed::Refused(r) => Parsed::Refused(r),
                     Parsed::Done(end, w) => {
@@ -382,7 +390,7 @@ fn operand(src: &[u8], out: &mut [u8], at: u32, p: Parser) -> Parsed
     let mut q = p;
     let mut size: u8 = 0;
     loop {
-        if q.kind == b'[' {
+        if q.kind == OPENING_BRACKET {
             return memory(src, out, at, q, size);
         }
         match name_ahead(src, q) {
@@ -441,7 +449,7 @@ pub fn operands(src: &[u8], out: &mut [u8], at: u32, p: Parser) -> OperandsRead
                     },
                 );
             }
-            if after == b',' {
+            if after == COMMA {
                 return source(src, out, w, q, from);
             }
             OperandsRead::Refused(refuse_here(q, 11))

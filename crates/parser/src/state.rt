@@ -15,17 +15,49 @@ pub struct Parser {
     pub pos: u32,
     pub token_start: u32,
     pub last_token_end: u32,
-    pub kind: u8,
+    pub kind: u32,
     pub value: u32,
 }
 
+// The kinds that readers ask for. They are the lexer's, in the width of the state, whose fields are all of one width: parts of
+// words would have to be masked at each copy.
+pub const WORD: u32 = 97; // a
+
+pub const NUMBER: u32 = 48; // 0
+
+pub const CLOSED: u32 = 39; // '
+
+pub const UNCLOSED: u32 = 34; // "
+
+pub const PLUS: u32 = 43; // +
+
+pub const MINUS: u32 = 45; // -
+
+pub const STAR: u32 = 42; // *
+
+pub const SLASH: u32 = 47; // /
+
+pub const OPENING: u32 = 40; // (
+
+pub const CLOSING: u32 = 41; // )
+
+pub const OPENING_BRACKET: u32 = 91; // [
+
+pub const CLOSING_BRACKET: u32 = 93; // ]
+
+pub const COLON: u32 = 58; // :
+
+pub const COMMA: u32 = 44; // ,
+
+pub const DOLLAR_SIGN: u32 = 36; // $
+
 // A register that is not there is 255.
 pub struct Refusal {
-    pub number: u8,
+    pub number: u32,
     pub from: u32,
     pub to: u32,
-    pub first: u8,
-    pub second: u8,
+    pub first: u32,
+    pub second: u32,
 }
 
 pub enum Step {
@@ -39,7 +71,7 @@ pub enum Parsed {
     Refused(Refusal),
 }
 
-pub fn refused_at(number: u8, from: u32, to: u32) -> Refusal
+pub fn refused_at(number: u32, from: u32, to: u32) -> Refusal
     ensures { λ r. ⌜ r ≡ numbersOf (at number from to) ⌝ }
 {
     Refusal {
@@ -52,7 +84,7 @@ pub fn refused_at(number: u8, from: u32, to: u32) -> Refusal
 }
 
 // Refused on the token ahead.
-pub fn refuse_here(p: Parser, number: u8) -> Refusal
+pub fn refuse_here(p: Parser, number: u32) -> Refusal
     ensures { λ r. ⌜ r ≡ numbersOf (at number (p .«token_start») (p .pos)) ⌝ }
 {
     refused_at(number, p.token_start, p.pos)
@@ -62,7 +94,7 @@ pub fn refuse_here(p: Parser, number: u8) -> Refusal
 struct Fetched {
     start: u32,
     end: u32,
-    kind: u8,
+    kind: u32,
     value: u32,
 }
 
@@ -74,7 +106,7 @@ fn fetch(src: &[u8], place: u32) -> Fetched
     let mut at = place;
     loop {
         let t = lexer::scan(src, at as usize);
-        let kind = t.kind;
+        let kind = t.kind as u32;
         let end = t.end as u32;
         if (kind == 32) | (kind == 59) {
             at = end;
@@ -90,7 +122,7 @@ fn fetch(src: &[u8], place: u32) -> Fetched
 }
 
 // A number that is refused: 30 and 31.
-fn is_fault(kind: u8) -> bool
+fn is_fault(kind: u32) -> bool
     ensures { λ r. ⌜ r ≡ (eqb kind 30 || eqb kind 31) ⌝ }
 {
     (kind == 30) | (kind == 31)
@@ -133,7 +165,7 @@ pub fn next_line(src: &[u8], p: Parser) -> Step
 }
 
 // Past the token ahead, which has to be the mark of this character.
-pub fn expect(src: &[u8], p: Parser, mark: u8, number: u8) -> Step
+pub fn expect(src: &[u8], p: Parser, mark: u32, number: u32) -> Step
     requires { ⌜ (length (now src) ≤ 65536) × (eqb mark 10 ≡ false) × (eqb mark 0 ≡ false) ⌝ }
     ensures { λ r. ⌜ Expects (now (src .entry)) p mark number r ⌝ }
 {
@@ -144,7 +176,7 @@ pub fn expect(src: &[u8], p: Parser, mark: u8, number: u8) -> Step
 }
 
 // A line ends at its line feed or at the end of the source.
-pub fn is_line_end(kind: u8) -> bool
+pub fn is_line_end(kind: u32) -> bool
     ensures { λ r. ⌜ r ≡ (eqb kind 10 || eqb kind 0) ⌝ }
 {
     (kind == 10) | (kind == 0)

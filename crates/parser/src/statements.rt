@@ -2,10 +2,16 @@
 use super::expressions::expression;
 use super::operands::OperandsRead;
 use super::operands::operands;
+use super::state::CLOSED;
+use super::state::COLON;
+use super::state::COMMA;
+use super::state::NUMBER;
 use super::state::Parsed;
 use super::state::Parser;
 use super::state::Refusal;
 use super::state::Step;
+use super::state::UNCLOSED;
+use super::state::WORD;
 use super::state::is_line_end;
 use super::state::next;
 use super::state::next_line;
@@ -23,7 +29,7 @@ ghost use Rattle.names.specs.Keys as keys;
 ghost use Rattle.rules.specs.Records.{field};
 ghost use Rattle.rules.specs.Statements as rules;
 ghost use Rattle.records.specs.Writes.{Wrote};
-ghost use Rattle.parser.specs.Views.{hereOf, whole, Passes, Reads};
+ghost use Rattle.parser.specs.Views.{parserOf, hereOf, whole, Passes, Reads};
 ghost use Rattle.parser.specs.Statements as answers;
 
 // A statement with the place behind its records, or none left before the end of the source.
@@ -89,7 +95,7 @@ fn label(src: &[u8], out: &mut [u8], at: u32, p: Parser) -> Parsed
     match next(src, p) {
         Step::Stopped(r) => Parsed::Refused(r),
         Step::Ahead(q) => {
-            if q.kind == b':' {
+            if q.kind == COLON {
                 match next(src, q) {
                     Step::Stopped(r) => Parsed::Refused(r),
                     Step::Ahead(after) => {
@@ -221,19 +227,19 @@ fn literal(src: &[u8], out: &mut [u8], at: u32, p: Parser, width: u8) -> Literal
     ensures { λ r. ⌜ answers.ReadsLiteral (now (src .entry)) p width at (now (out .entry)) (now (out .exit)) r ⌝ }
 {
     let kind = p.kind;
-    if kind == b',' {
+    if kind == COMMA {
         return LiteralRead::Bytes(at, false);
     }
-    if kind == b'0' {
+    if kind == NUMBER {
         let w = put_number(out, at, p.value, width);
         return LiteralRead::Bytes(w, true);
     }
-    if kind == b'\'' {
+    if kind == CLOSED {
         let word = text(src, p);
         let w = put_characters(out, at, word);
         return LiteralRead::Bytes(w, 2 < word.len());
     }
-    if kind == b'"' {
+    if kind == UNCLOSED {
         return LiteralRead::Refused(refuse_here(p, 26));
     }
     LiteralRead::Refused(refuse_here(p, 15))
@@ -299,23 +305,43 @@ fn data_of(src: &[u8], out: &mut [u8], at: u32, p: Parser, width: u8) -> Parsed
     }
 }
 
-// A statement whose first token is ahead; `left` more `times` may begin.
-fn line(src: &[u8], table: &[u8; 936], out: &mut [u8], at: u32, p: Parser, left: u32) -> Parsed
+// A statement whose first token is ahead; `left` more `times` may begin. The state is handed over number by number: a struct would
+// be written by its fields and copied as a whole, which waits for the writes.
+fn line(
+    src: &[u8],
+    table: &[u8; 936],
+    out: &mut [u8],
+    at: u32,
+    pos: u32,
+    token_start: u32,
+    last_token_end: u32,
+    kind: u32,
+    value: u32,
+    left: u32,
+) -> Parsed
     requires { ⌜ (length (now src) ≤ 65536) × (keys.goodTable (now table) ≡ true) ⌝ }
-    ensures { λ r. ⌜ Reads whole (now (src .entry)) p (rules.line (now (table .entry)) (rules.times (now (table .entry)) left)) at (now (out .entry)) (now (out .exit)) r ⌝ }
+    ensures { λ r. ⌜ Reads whole (now (src .entry)) (parserOf pos «token_start» «last_token_end» kind value) (rules.line (now (table .entry)) (rules.times (now (table .entry)) left)) at (now (out .entry)) (now (out .exit)) r ⌝ }
 {
-    if p.kind != b'a' {
+    let p = Parser {
+        pos: pos,
+        token_start: token_start,
+        last_token_end: last_token_end,
+        kind: kind,
+        value: value,
+    };
+    if kind != WORD {
         return Parsed::Refused(refuse_here(p, 20));
     }
     let word = text(src, p);
-    match names::operation(table, word) {
-        Found::Operation(operation) => instruction(src, out, at, p, operation),
-        Found::Nothing => match names::directive_of(word) {
-            Directive::Equ => constant(src, out, at, p),
-            Directive::Db => data_of(src, out, at, p, 1),
-            Directive::Dw => data_of(src, out, at, p, 2),
-            Directive::Times => times(src, table, out, at, p, left),
-            Directive::Other => label(src, out, at, p),
+    let key = names::word_key(word);
+    match names::directive_by(key) {
+        Directive::Equ => constant(src, out, at, p),
+        Directive::Db => data_of(src, out, at, p, 1),
+        Directive::Dw => data_of(src, out, at, p, 2),
+        Directive::Times => times(src, table, out, at, p, left),
+        Directive::Other => match names::operation_by(table, key) {
+            Found::Operation(operation) => instruction(src, out, at, p, operation),
+            Found::Nothing => label(src, out, at, p),
         },
     }
 }
@@ -357,11 +383,74 @@ fn content(
     if is_line_end(kind) {
         return Parsed::Refused(refuse_here(word, 34));
     }
-    match line(src, table, out, at, p, left) {
+    match line(
+        src,
+        table,
+        out,
+        at,
+        p.pos,
+        p.token_start,
+        p.last_token_end,
+        p.kind,
+        p.value,
+        left,
+    ) {
         Parsed::Refused(r) => Parsed::Refused(r),
         Parsed::Done(q, w) => {
             let n = records::put_span(out, w, b'L', b'T', 0, 0);
             Parsed::Done(q, n)
+        }
+    }
+}
+
+// How many `times` may stand within one another.
+const MOST_TIMES: u32 = 16;
+
+// A statement, from a state that is handed over number by number.
+fn statement_from(
+    src: &[u8],
+    table: &[u8; 936],
+    out: &mut [u8],
+    at: u32,
+    pos: u32,
+    token_start: u32,
+    last_token_end: u32,
+    kind: u32,
+    value: u32,
+) -> StatementRead
+    requires { ⌜ (length (now src) ≤ 65536) × (keys.goodTable (now table) ≡ true) ⌝ }
+    ensures { λ r. ⌜ answers.ReadsStatement (now (table .entry)) (now (src .entry)) (parserOf pos «token_start» «last_token_end» kind value) at (now (out .entry)) (now (out .exit)) r ⌝ }
+{
+    let p = Parser {
+        pos: pos,
+        token_start: token_start,
+        last_token_end: last_token_end,
+        kind: kind,
+        value: value,
+    };
+    match skip_lines(src, p) {
+        Step::Stopped(r) => StatementRead::Refused(r),
+        Step::Ahead(q) => {
+            let first = q.kind;
+            if is_line_end(first) {
+                return StatementRead::NoneLeft(q);
+            }
+            let w = records::put_place(out, at, b'S', b'T', q.token_start);
+            match line(
+                src,
+                table,
+                out,
+                w,
+                q.pos,
+                q.token_start,
+                q.last_token_end,
+                q.kind,
+                q.value,
+                MOST_TIMES,
+            ) {
+                Parsed::Refused(r) => StatementRead::Refused(r),
+                Parsed::Done(after, n) => StatementRead::Read(after, n),
+            }
         }
     }
 }
@@ -371,20 +460,17 @@ pub fn statement(src: &[u8], table: &[u8; 936], out: &mut [u8], at: u32, p: Pars
     requires { ⌜ (length (now src) ≤ 65536) × (keys.goodTable (now table) ≡ true) ⌝ }
     ensures { λ r. ⌜ answers.ReadsStatement (now (table .entry)) (now (src .entry)) p at (now (out .entry)) (now (out .exit)) r ⌝ }
 {
-    match skip_lines(src, p) {
-        Step::Stopped(r) => StatementRead::Refused(r),
-        Step::Ahead(q) => {
-            let kind = q.kind;
-            if is_line_end(kind) {
-                return StatementRead::NoneLeft(q);
-            }
-            let w = records::put_place(out, at, b'S', b'T', q.token_start);
-            match line(src, table, out, w, q, 16) {
-                Parsed::Refused(r) => StatementRead::Refused(r),
-                Parsed::Done(after, n) => StatementRead::Read(after, n),
-            }
-        }
-    }
+    statement_from(
+        src,
+        table,
+        out,
+        at,
+        p.pos,
+        p.token_start,
+        p.last_token_end,
+        p.kind,
+        p.value,
+    )
 }
 
 // The first token from a place on is ahead, as behind a line feed.
@@ -410,18 +496,28 @@ pub fn statements(src: &[u8], table: &[u8; 936], out: &mut [u8], at: u32, p: Par
     ensures { λ r. ⌜ answers.ReadsStatements (now (table .entry)) (now (src .entry)) p at (now (out .entry)) (now (out .exit)) r ⌝ }
 {
     let mut q = p;
-    let mut w = at;
+    let mut place = at;
     loop {
-        match statement(src, table, out, w, q) {
+        match statement_from(
+            src,
+            table,
+            out,
+            place,
+            q.pos,
+            q.token_start,
+            q.last_token_end,
+            q.kind,
+            q.value,
+        ) {
             StatementRead::Refused(r) => {
                 return Parsed::Refused(r);
             }
             StatementRead::NoneLeft(end) => {
-                return Parsed::Done(end, w);
+                return Parsed::Done(end, place);
             }
             StatementRead::Read(after, n) => {
                 q = after;
-                w = n;
+                place = n;
             }
         }
     }

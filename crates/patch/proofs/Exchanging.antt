@@ -30,7 +30,6 @@ use Rattle.reader.specs.Lent.{foreignPlace, lentOf}
 use Rattle.reader.specs.Calls.{fullAnswer}
 use Rattle.reader.proofs.Lending.{lent-refused, lent-accepted}
 use Rattle.parser.specs.declared.state.Refusal.{Refusal}
-use Rattle.parser.specs.Views.{numbersOf}
 use Rattle.patch.specs.declared.PatchAnswer.{PatchAnswer}
 use Rattle.patch.specs.declared.PatchAnswer.the-variants.{Refused}
 use Rattle.patch.specs.Moves.{recordsAt, Decodes}
@@ -130,7 +129,6 @@ module _ (ed : List ℕ) (short : length ed ≤ 65536) (x : Result Edit) where
 
   plain-ascii : lending.Accepted ≡ lentOf ed → (ascii ed x ≡ x) × (foreignPlace ed ≡ length ed)
   plain-ascii e = let (i, j, k) = lent-accepted ed x e in (sym lent-ascii ∙ i, k)
-
 
 -- the edited source at the head of a room that is large enough
 module _ (old : List ℕ) (a : ℕ) (new : List ℕ) (h : a ≤ length old) (room : List ℕ) {end n : ℕ} {room′ : List ℕ} (e : end ≡ a + length (lineAt old a)) (k : n ≡ length (edited old a new)) (short : n ≤ 65536)

@@ -10,7 +10,7 @@ use lib.ListN.{length, take, drop, length-append, length-drop, drop-of-length-le
 use lib.Seq.{take-at, drop-at, take-all, drop-drop, drop-append-add, length-take-le}
 use Rattle.rules.specs.Records.{Record, listing}
 use Rattle.rules.specs.Reader.{Refusal as Cause, nowhere}
-use Rattle.rules.specs.Calls.{Result, gives, refuses, unless, inRoom, overwrite, leaves}
+use Rattle.rules.specs.Calls.{Result, refuses, unless, inRoom, overwrite, leaves}
 use Rattle.rules.specs.Patch.{recordsBelow, recordsOn, Edit, exchanged, placedIn, patchSource, patchListing}
 use Rattle.rules.proofs.Records.{listing-append}
 use Rattle.rules.proofs.Reencode.{Octets}
@@ -22,7 +22,7 @@ use Rattle.parser.specs.Views.{numbersOf}
 use Rattle.patch.specs.declared.PatchAnswer.{PatchAnswer}
 use Rattle.patch.specs.declared.PatchAnswer.the-variants.{Written, Refused}
 use Rattle.patch.specs.Moves.{recordsAt, Decodes, First, movedBytes}
-use Rattle.patch.specs.Patched.{patchAnswer, Patches}
+use Rattle.patch.specs.Patched.{Patches}
 use Rattle.patch.proofs.Moving.{moved-length, rest-length, first-decodes, first-within, first-kept, first-twice}
 
 -- A refusal leaves both buffers.
@@ -122,5 +122,5 @@ module _ {old : List ℕ} {a p below on : ℕ} (P : Parts old a p below on) (q :
       let z = moved-length q p (recordsOn (a + p) rs) in
       let b : below - 0 ≡ below = omega arith in
       let o = assembled l (listing (recordsBelow a rs)) (listing w) m (P .first) (ap (λ (x : ℕ). below + x) k) (omega (arith, P .all)) f
-          (g ∙ ap (stores (take below l ++ (part ++ drop (length l - below) (drop below l))) 0) (ap (λ (x : ℕ). take x old) b ∙ P .kept)) (j ∙ ap (λ (r : List Record). stores l₂ (below + n) (movedBytes q p r)) (P .rest)) in
+      (g ∙ ap (stores (take below l ++ (part ++ drop (length l - below) (drop below l))) 0) (ap (λ (x : ℕ). take x old) b ∙ P .kept)) (j ∙ ap (λ (r : List Record). stores l₂ (below + n) (movedBytes q p r)) (P .rest)) in
       placed s l ed (exchanged a p q rs w) h (omega (arith, size-is k)) (e ∙ stored-over s ed h) (o ∙ ap (λ (b : List ℕ). overwrite b l) (sym (exchanged-bytes a p q rs w))) (size-is k)

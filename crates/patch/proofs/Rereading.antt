@@ -10,19 +10,19 @@ use native.Mathlib.Nat.{zero-add}
 use lib.Dec.{ltb}
 use lib.ListN.{length, take, drop, length-append, length-take, length-drop}
 use lib.Seq.{drop-at, take-all, take-append-add, length-take-le, drop-drop}
-use Rattle.lexer.specs.Text.{if_then_else_, maybe, run}
+use Rattle.lexer.specs.Text.{if_then_else_, run}
 use Rattle.lexer.specs.Tokens.{inComment}
 use Rattle.lexer.proofs.Runs.{run-le}
 use Rattle.names.specs.Table.{operations}
 use Rattle.rules.specs.Records.{Record, listing}
 use Rattle.rules.specs.Reader.{Refusal as Cause}
 use Rattle.rules.specs.Statements.{Outcome, accepted, refusal, readFrom}
-use Rattle.rules.specs.Calls.{Result, gives, refuses, foreign}
-use Rattle.rules.specs.Patch.{above, lineAt, behind, edited, Edit, exchanged, placedIn, reread}
-use Rattle.rules.proofs.Shape.{Small, small-parts}
+use Rattle.rules.specs.Calls.{foreign}
+use Rattle.rules.specs.Patch.{above, lineAt, behind, edited, exchanged, placedIn, reread}
+use Rattle.rules.proofs.Shape.{small-parts}
 use Rattle.rules.proofs.Table.{proper}
 use Rattle.rules.proofs.Bound.{bounded-from}
-use Rattle.records.specs.Writes.{stores, limit, Wrote}
+use Rattle.records.specs.Writes.{stores, limit}
 use Rattle.reader.specs.Lent.{foreignPlace}
 use Rattle.reader.proofs.Lending.{never-foreign, place-none}
 use Rattle.reader.proofs.FullReads.{small}
@@ -33,7 +33,7 @@ use Rattle.parser.specs.Views.{numbersOf}
 use Rattle.parser.specs.Statements.{Started, NotStarted, ReadsStatements}
 use Rattle.parser.proofs.StatementsCalls.{full-read, full-refused, full-not-started}
 use Rattle.patch.specs.declared.PatchAnswer.{PatchAnswer}
-use Rattle.patch.specs.declared.PatchAnswer.the-variants.{Written, Refused}
+use Rattle.patch.specs.declared.PatchAnswer.the-variants.{Refused}
 use Rattle.patch.specs.Moves.{First}
 use Rattle.patch.specs.Patched.{Patches, acceptedOf, Measured}
 use Rattle.patch.proofs.LineLaws.{line-length}

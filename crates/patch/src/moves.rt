@@ -1,8 +1,8 @@
 // The records of an old listing: where its statements from a place on stand, and those moved.
 use super::lines::copy;
 ghost use mathlib.Core.Path.{_≡_};
-ghost use Prim.Native.Nat.{ℕ, _+_, _-_, _≤_, _<_};
-ghost use lib.ListN.{length, drop};
+ghost use Prim.Native.Nat.{_+_, _-_, _≤_, _<_};
+ghost use lib.ListN.{length};
 ghost use Rattle.rules.specs.Records.{encode, moveRecord};
 ghost use Rattle.rules.specs.Patch.{statementFrom};
 ghost use Rattle.records.specs.Writes.{stores};

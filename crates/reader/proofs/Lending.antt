@@ -1,17 +1,18 @@
 -- The first byte above 127, found byte by byte, and what it says of a source.
 -- Assumes nothing.
 use Prim.Native.Nat.{ℕ, zero, suc, _+_, _≤_, _<_}
-use mathlib.Core.Path.{_≡_, refl, sym, ap, _∙_}
-use mathlib.Core.Bool.{Bool, true, false}
+use mathlib.Core.Path.{_≡_, refl, sym, ap, subst, _∙_}
+use mathlib.Core.Bool.{Bool, true, false, _&&_}
 use mathlib.Core.List.{List, [], _∷_}
 use mathlib.Core.Option.{Option, none, some}
+use mathlib.Core.Logic.{_⊎_, inl, inr, ⊎-elim}
 use native.Mathlib.Omega.{arith}
 use native.Mathlib.Nat.{le-refl}
 use native.Mathlib.Numerals.{add-one}
-use lib.Dec.{ltb}
+use lib.Dec.{T, ltb, leb}
 use lib.ListN.{length, drop, getD, drop-of-length-le, length-drop}
 use lib.Seq.{drop-cons}
-use borrow.Author.Tests.{lt-ltb, le-ltb, ltb-false}
+use borrow.Author.Tests.{lt-ltb, le-ltb, ltb-true, ltb-false, le-leb, lt-leb}
 use Rattle.lexer.specs.Text.{if_then_else_, maybe}
 use Rattle.rules.specs.Reader.{Refusal as Cause, at, nowhere}
 use Rattle.parser.specs.declared.state.Refusal.{Refusal}
@@ -29,7 +30,7 @@ use Rattle.reader.specs.declared.Lent.the-variants.{Accepted, Refused}
 use Rattle.parser.specs.Views.{numbersOf}
 use Rattle.reader.specs.declared.TokenAnswer.the-variants as token
 use Rattle.reader.specs.Calls.{tokenAnswer}
-use Rattle.reader.specs.Lent.{foreignPlace, lentAnswer, lentOf, lentAtOf}
+use Rattle.reader.specs.Lent.{isAscii, foreignPlace, lentAnswer, lentOf, lentAtOf}
 
 module _ (s : List ℕ) (i : ℕ) where
   pub foreign-here : i < length s → 127 < getD s i 0 → foreign i (drop i s) ≡ some i
@@ -43,6 +44,50 @@ module _ (s : List ℕ) (i : ℕ) where
   pub foreign-end : length s ≤ i → foreign i (drop i s) ≡ none
   unfolding foreign
   foreign-end h = rw (drop-of-length-le s h)
+
+-- The bytes before i have `most` as their largest: the whole is asked of it and of the rest.
+abbrev pub Asked : List ℕ → ℕ → ℕ → Type 0
+Asked s i most = isAscii s ≡ (leb most 127 && maybe (foreign i (drop i s)) true (λ p. false))
+
+and-true : (b : Bool) → (b && true) ≡ b
+and-true true = refl
+and-true false = refl
+
+and-false : (b : Bool) → (b && false) ≡ false
+and-false true = refl
+and-false false = refl
+
+pub asked-starts : (s : List ℕ) → Asked s 0 0
+unfolding isAscii
+asked-starts s = refl
+
+module _ (s : List ℕ) (i most : ℕ) (a : Asked s i most) where
+  pub asked-on : i < length s → (more : ℕ) → most ≤ more → getD s i 0 ≤ more → (more ≡ most) ⊎ (more ≡ getD s i 0) → Asked s (i + 1) more
+  asked-on h more p q e = by (ltb 127 (getD s i 0)) (ltb-true 127 (getD s i 0)) (ltb-false 127 (getD s i 0))
+    where
+      low : getD s i 0 ≤ 127 → leb more 127 ≡ leb most 127
+      low k =
+          ⊎-elim
+          (λ o. ap (λ (n : ℕ). leb n 127) o)
+          (λ o. le-leb more 127 (omega arith) ∙ sym (le-leb most 127 (omega arith)))
+          e
+
+      by : (b : Bool) → (b ≡ true → 127 < getD s i 0) → (b ≡ false → getD s i 0 ≤ 127) → Asked s (i + 1) more
+      by true f g =
+          let k : 127 < getD s i 0 = f refl in
+          let z : leb more 127 ≡ false = lt-leb more 127 (omega arith) in
+          a
+          ∙ ap (λ (o : Option ℕ). leb most 127 && maybe o true (λ (n : ℕ). false)) (foreign-here s i h k)
+          ∙ and-false (leb most 127)
+          ∙ sym (ap (λ (b : Bool). b && maybe (foreign (i + 1) (drop (i + 1) s)) true (λ (n : ℕ). false)) z)
+      by false f g =
+          let k : getD s i 0 ≤ 127 = g refl in
+          a
+          ∙ ap (λ (b : Bool). b && maybe (foreign i (drop i s)) true (λ (n : ℕ). false)) (sym (low k))
+          ∙ ap (λ (o : Option ℕ). leb more 127 && maybe o true (λ (n : ℕ). false)) (sym (foreign-on s i h k))
+
+  pub asked-end : length s ≤ i → leb most 127 ≡ isAscii s
+  asked-end h = sym (a ∙ ap (λ (o : Option ℕ). leb most 127 && maybe o true (λ (n : ℕ). false)) (foreign-end s i h) ∙ and-true (leb most 127))
 
 foreign-inside : (p : ℕ) (s : List ℕ) (q : ℕ) → foreign p s ≡ some q → q < p + length s
 unfolding foreign
@@ -61,6 +106,14 @@ module _ (s : List ℕ) where
   pub place-none : {i : ℕ} → foreign 0 s ≡ none → i ≡ length s → i ≡ foreignPlace s
   unfolding foreignPlace
   place-none e k = rw e k
+
+  pub ascii-place : isAscii s ≡ true → length s ≡ foreignPlace s
+  unfolding isAscii foreignPlace
+  ascii-place = go (foreign 0 s)
+    where
+      go : (o : Option ℕ) → maybe o true (λ p. false) ≡ true → length s ≡ maybe o (length s) (λ p. p)
+      go none e = refl
+      go (some p) e = absurd (subst T (sym e) tt)
 
   some-foreign : {i : ℕ} → i ≡ foreignPlace s → i < length s → foreign 0 s ≡ some i
   unfolding foreignPlace

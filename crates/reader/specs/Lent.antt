@@ -1,5 +1,6 @@
 -- Whether a source is one to read, as the code answers it.
 use Prim.Native.Nat.{ℕ}
+use mathlib.Core.Bool.{Bool, true, false}
 use mathlib.Core.List.{List, []}
 use lib.ListN.{length}
 use Rattle.lexer.specs.Text.{maybe}
@@ -7,6 +8,10 @@ use Rattle.rules.specs.Calls.{Result, gives, refuses, foreign, lent, lentAt}
 use Rattle.reader.specs.declared.Lent.{Lent}
 use Rattle.reader.specs.declared.Lent.the-variants.{Accepted, Refused}
 use Rattle.parser.specs.Views.{numbersOf}
+
+-- whether no byte is above 127
+unfoldable pub isAscii : List ℕ → Bool
+isAscii s = maybe (foreign 0 s) true (λ p. false)
 
 -- the place of the first byte above 127, or the length
 unfoldable pub foreignPlace : List ℕ → ℕ

@@ -22,7 +22,7 @@ ghost use Rattle.names.specs.Table.{operations};
 ghost use Rattle.rules.specs.Records.{listing};
 ghost use Rattle.rules.specs.Calls as rules;
 ghost use Rattle.rules.specs.Statements.{fullRead};
-ghost use Rattle.reader.specs.Lent.{foreignPlace, lentOf, lentAtOf};
+ghost use Rattle.reader.specs.Lent.{isAscii, foreignPlace, lentOf, lentAtOf};
 ghost use Rattle.parser.specs.Statements.{Started};
 ghost use Rattle.reader.specs.Calls.{FullRead, OneRead, Writes, tokenAnswer, fullAnswer, statementAnswer};
 ghost use Rattle.lexer.specs.Tokens.{faultNumber};
@@ -52,10 +52,29 @@ pub enum Lent {
     Refused(Refusal),
 }
 
+// Whether no byte is above 127. Only the largest is asked, so that many bytes are taken at a time.
+fn is_ascii(source: &[u8]) -> bool
+    ensures { λ r. ⌜ r ≡ isAscii (now (source .entry)) ⌝ }
+{
+    let mut most: u8 = 0;
+    let mut i: usize = 0;
+    while i < source.len() {
+        let c = source[i];
+        if most < c {
+            most = c;
+        }
+        i += 1;
+    }
+    most <= 127
+}
+
 // The place of the first byte above 127, or the source's length.
 fn foreign(source: &[u8]) -> usize
     ensures { λ r. ⌜ r ≡ foreignPlace (now (source .entry)) ⌝ }
 {
+    if is_ascii(source) {
+        return source.len();
+    }
     let mut i: usize = 0;
     while i < source.len() {
         if 127 < source[i] {
@@ -196,8 +215,8 @@ fn one_statement(
         StatementRead::Refused(r) => StatementAnswer::Refused(r),
         StatementRead::NoneLeft(_) => StatementAnswer::NoneLeft,
         StatementRead::Read(q, n) => {
-            let size = n as usize;
-            if out.len() < size {
+            let bytes = n as usize;
+            if out.len() < bytes {
                 return StatementAnswer::Refused(refused_at(4, 0, 0));
             }
             match statement(source, table, out, 0, p) {
@@ -234,7 +253,7 @@ pub fn statement_read(source: &[u8], place: usize, out: &mut [u8]) -> StatementA
     }
 }
 
-fn fault_number(fault: Fault) -> u8
+fn fault_number(fault: Fault) -> u32
     ensures { λ r. ⌜ r ≡ faultNumber fault ⌝ }
 {
     match fault {

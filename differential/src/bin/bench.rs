@@ -116,6 +116,43 @@ fn main() {
             );
         }
     }
+    println!("\none line in the middle exchanged: the patch, the full read of the edited source, and a copy of the same bytes");
+    for (title, make) in [("marker lines", sources::marker_lines as fn(usize) -> String), ("code lines", sources::code_lines)] {
+        let text = make(65500);
+        let length = ours::full_read(text.as_bytes(), &mut buffer).unwrap();
+        let listing = buffer[..length].to_vec();
+        let middle = text.len() / 2;
+        let place = middle + text[middle..].find('\n').unwrap() + 1;
+        let new = b"weld dw 12345, 6 ; moved";
+        let (mut source, mut out) = (vec![0; 65536], vec![0; 18 * 65536]);
+        let (s, l) = ours::patch(text.as_bytes(), &listing, place, new, &mut source, &mut out).unwrap();
+        let (edited, expected) = (source[..s].to_vec(), out[..l].to_vec());
+        assert_eq!(ours::full_read(&edited, &mut buffer), Ok(l));
+        assert!(buffer[..l] == expected);
+        let (patch, full) = in_turn(
+            rounds,
+            || ours::patch(black_box(text.as_bytes()), &listing, place, new, &mut source, &mut out).unwrap(),
+            || ours::full_read(black_box(&edited), &mut buffer).unwrap(),
+        );
+        let (copied, _) = in_turn(
+            rounds,
+            || {
+                source[..s].copy_from_slice(black_box(&edited));
+                out[..l].copy_from_slice(black_box(&expected));
+            },
+            || {},
+        );
+        let micro = |seconds: f64| seconds * 1e6;
+        println!(
+            "  {title}, {s} bytes, listing {l}: patch {:.1} us (median {:.1}), full read {:.1} us (median {:.1}), ratio {:.2}; copy {:.1} us",
+            micro(patch.best),
+            micro(patch.median),
+            micro(full.best),
+            micro(full.median),
+            full.best / patch.best,
+            micro(copied.best)
+        );
+    }
     println!("\ntime by length, marker lines");
     for length in [1024, 2048, 4096, 8192, 16384, 32768, 65536] {
         let text = sources::marker_lines(length);

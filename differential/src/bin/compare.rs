@@ -44,7 +44,7 @@ fn main() {
 #[cfg(all(library, original))]
 fn with_original(long: bool) {
     use differential::reads::{self, on_a_large_stack};
-    use differential::{tokens, words};
+    use differential::{patches, tokens, words};
 
     let mut compare = tokens::Compare::new(ours::token);
     compare.all(if long { 10 } else { 1 });
@@ -88,6 +88,25 @@ fn with_original(long: bool) {
         "statement reads: {} calls, {} statements, {} times none left: all as the original's",
         compare.reads, compare.written, compare.none_left
     );
+
+    let patch = |call: &patches::Call, source: &mut [u8], listing: &mut [u8]| {
+        ours::patch(call.source, call.listing, call.place, call.text, source, listing)
+    };
+    on_a_large_stack(move || {
+        let (calls, accepted) = patches::compare(if long { 1_000_000 } else { 100_000 }, patch);
+        assert!(calls > 100_000 && accepted > 10_000, "too little was compared");
+        println!("patches: {calls} calls, {accepted} edits accepted, buffers too short by a byte among them: all by the rule");
+        let (calls, refused) = patches::damaged(patch);
+        assert!(refused > 1000 && calls - refused > 1000, "too little was compared");
+        println!("damaged listings: {calls} calls, {refused} refused with 41: all as a second checker says");
+        println!("order of refusals: {} sets of causes, each refused by its first", patches::order(patch));
+        let wanted = if long { 3_000_000 } else { 300_000 };
+        let [calls, accepted, refused, open] = patches::as_full_read(wanted, patch, ours::full_read);
+        assert!(accepted > 50_000 && refused > 10_000 && open > 1000, "too little was compared");
+        println!(
+            "patch and full read: {calls} edits of accepted sources, {accepted} accepted, {refused} refused, all as the full read of the edited source; {open} refused with 40"
+        );
+    });
 }
 
 #[cfg(all(library, not(original)))]

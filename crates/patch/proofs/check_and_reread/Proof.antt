@@ -1,10 +1,7 @@
 -- 41 and 40 as the rules say; what is left is the reading of the new line.
 -- Assumes nothing.
-use Prim.Native.Nat.{_≤_}
-use mathlib.Core.Path.{_≡_, refl, sym, ap, _∙_}
-use native.Mathlib.Omega.{arith}
+use mathlib.Core.Path.{sym, _∙_}
 use denote.Ref.{now}
-use lib.ListN.{length}
 use borrow.Author.Tests.{not-true, not-false}
 use Rattle.rules.specs.Reader.{nowhere}
 use Rattle.patch.proofs.LineLaws.{begins-within}

@@ -1,10 +1,10 @@
 -- What stands at the head of the room is the edited source.
 -- Assumes nothing.
-use Prim.Native.Nat.{ℕ, _≤_}
-use mathlib.Core.Path.{_≡_, refl, sym, ap, _∙_}
+use Prim.Native.Nat.{ℕ}
+use mathlib.Core.Path.{sym, _∙_}
 use native.Mathlib.Omega.{arith}
 use denote.Ref.{now}
-use lib.ListN.{length, length-replicate}
+use lib.ListN.{length-replicate}
 use Rattle.patch.proofs.LineLaws.{begins-within}
 use Rattle.patch.proofs.Placing.{same-edit}
 use Rattle.patch.proofs.Rereading.{end-within, edited-length}

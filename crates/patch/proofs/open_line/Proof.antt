@@ -1,10 +1,7 @@
 -- The three lines, each read alone.
 -- Assumes nothing.
-use Prim.Native.Nat.{_≤_}
-use mathlib.Core.Path.{_≡_, refl, sym, ap, _∙_}
 use native.Mathlib.Omega.{arith}
 use denote.Ref.{now}
-use lib.ListN.{length}
 use Rattle.patch.proofs.LineLaws.{begins-within}
 use Rattle.patch.proofs.Rereading.{end-within}
 use Rattle.patch.proofs.Exchanging.{old-open, new-open, near-open}

@@ -1,10 +1,9 @@
 -- The old listing's parts stand where the two places say, and the second reading writes what the first has measured.
 -- Assumes nothing.
 use Prim.Native.Nat.{_≤_}
-use mathlib.Core.Path.{_≡_, refl, sym, ap, subst, _∙_}
+use mathlib.Core.Path.{subst}
 use native.Mathlib.Omega.{arith}
 use denote.Ref.{now}
-use lib.ListN.{length}
 use Rattle.names.proofs.Operations.{made-good}
 use Rattle.records.specs.Writes.{limit}
 use Rattle.parser.specs.Statements.{ReadsStatements}

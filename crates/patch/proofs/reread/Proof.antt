@@ -1,13 +1,12 @@
 -- The cut ends behind the new line, so only that line is read, in its place.
 -- Assumes nothing.
 use Prim.Native.Nat.{_+_, _-_}
-use mathlib.Core.Path.{_≡_, refl, sym, ap, subst, _∙_}
+use mathlib.Core.Path.{_≡_, subst}
 use mathlib.Core.Logic.{⊎-elim}
 use native.Mathlib.Omega.{arith}
 use denote.Ref.{now}
-use lib.ListN.{length, take}
 use Rattle.names.proofs.Operations.{made-good}
-use Rattle.parser.specs.Statements.{Started, Starts, ReadsStatements}
+use Rattle.parser.specs.Statements.{Starts, ReadsStatements}
 use Rattle.patch.proofs.Moving.{first-decodes}
 use Rattle.patch.proofs.Rereading.{new-within, Cut, cut-end, cut-feed, first-as, short-take, plain-take, not-begun, denied, measured, line-denied, line-accepted}
 use borrow.Author.Needs.{needs}
@@ -75,7 +74,7 @@ cast-t33 : tie.Need-cast-t33
 cast-t33 c = search needs
 
 place-in-requires : tie.Need-place-in-requires
-place-in-requires c κs = 
+place-in-requires c κs =
     let e : c .before .before .before .before .before .before .before .before .before .before .before .before .before .before .before .before .before .before .before .before .before .before .before .args .end ≡ c .before .before .before .before .before .before .before .before .before .before .before .before .before .before .before .before .before .before .before .before .before .before .before .args .place + (c .before .before .before .before .before .before .before .before .before .before .before .before .before .before .before .before .before .before .before .before .before .before .before .args .end - c .before .before .before .before .before .before .before .before .before .before .before .before .before .before .before .before .before .before .before .before .before .before .before .args .place) = omega (arith, c .before .before .before .before .before .before .before .before .before .before .before .before .before .before .before .before .before .before .before .before .before .before .before .pre .5) in
     (c .before .before .before .before .before .before .before .before .before .before .before .before .before .before .before .before .before .before .before .before .before .before .before .pre .1, (short-take (c .before .before .before .before .before .before .before .before .before .before .before .before .before .before .before .before .if1 .cut - 0) (now (c .before .before .before .before .before .before .before .before .before .before .before .before .before .before .before .before .before .before .before .before .before .before .before .args .edited)) (c .before .before .before .before .before .before .before .before .before .before .before .before .before .before .before .before .before .before .before .before .before .before .before .pre .1)), (plain-take (c .before .before .before .before .before .before .before .before .before .before .before .before .before .before .before .before .if1 .cut - 0) (now (c .before .before .before .before .before .before .before .before .before .before .before .before .before .before .before .before .before .before .before .before .before .before .before .args .edited)) (c .before .before .before .before .before .before .before .before .before .before .before .before .before .before .before .before .before .before .before .before .before .before .before .pre .2)), c .before .before .before .before .before .before .before .before .before .before .before .before .before .before .before .before .before .before .before .before .before .before .before .pre .3, (cut-is (c .before .before .before .before .before .before .before .before .before .before .before .before .before .before .before)) .place, omega (arith, new-within _ _ _ (c .before .before .before .before .before .before .before .before .before .before .before .before .before .before .before .before .before .before .before .before .before .before .before .pre .4) (c .before .before .before .before .before .before .before .before .before .before .before .before .before .before .before .before .before .before .before .before .before .before .before .pre .6), c .before .before .before .before .before .before .before .before .before .before .before .before .before .before .before .before .before .before .before .before .before .before .before .pre .1), (measured _ _ (short-take (c .before .before .before .before .before .before .before .before .before .before .before .before .before .before .before .before .if1 .cut - 0) (now (c .before .before .before .before .before .before .before .before .before .before .before .before .before .before .before .before .before .before .before .before .before .before .before .args .edited)) (c .before .before .before .before .before .before .before .before .before .before .before .before .before .before .before .before .before .before .before .before .before .before .before .pre .1)) (plain-take (c .before .before .before .before .before .before .before .before .before .before .before .before .before .before .before .before .if1 .cut - 0) (now (c .before .before .before .before .before .before .before .before .before .before .before .before .before .before .before .before .before .before .before .before .before .before .before .args .edited)) (c .before .before .before .before .before .before .before .before .before .before .before .before .before .before .before .before .before .before .before .before .before .before .before .pre .2)) ((cut-is (c .before .before .before .before .before .before .before .before .before .before .before .before .before .before .before)) .place) (subst (Starts _ _) (c .before .before .before .before .before .before .before .before .before .before .before .p .given .1) (c .before .before .before .before .before .before .before .before .before .before .before .before .before .start .ensures) .so) (rw (c .before .before .before .before .before .before .before .before .before .before .before .before .before .before .before .before .before .before .before .before .before .before .before .pre .3) at (subst (ReadsStatements _ _ _ _ _ _) (c .before .before .before .before .before .n .given .1) (c .before .before .before .before .before .before .before .before .statements .ensures)))), c .before .before .before .before .before .before .before .before .before .before .before .before .before .before .before .before .before .before .before .before .before .before .before .pre .7, c .before .before .before .first-from .ensures, first-as e (c .before .before .first-from2 .ensures))
 

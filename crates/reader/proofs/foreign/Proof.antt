@@ -1,4 +1,4 @@
--- `foreign` finds the first byte above 127. The invariant: what is left to search has the same first.
+-- `foreign` finds the first byte above 127, where there is one. The invariant: what is left to search has the same first.
 -- Assumes nothing.
 use Prim.Native.Nat.{_+_, _-_, _≤_}
 use mathlib.Core.Path.{_≡_, refl, sym, _∙_}
@@ -6,11 +6,9 @@ use native.Mathlib.Omega.{arith}
 use borrow.Author.Needs.{needs}
 use lib.ListN.{length, drop}
 use Rattle.rules.specs.Calls.{foreign}
-use Rattle.reader.proofs.Lending.{foreign-here, foreign-on, foreign-end, place-found, place-none}
+use Rattle.reader.proofs.Lending.{ascii-place, foreign-here, foreign-on, foreign-end, place-found, place-none}
 use Rattle.reader.proofs.foreign.Statement.{statement}
 use Rattle.reader.proofs.foreign.Tie as tie
-use Rattle.reader.proofs.foreign.Reads as reads
-use Rattle.reader.proofs.foreign.Lts as lts
 
 abbrev Inv-loop : tie.InvT-loop
 Inv-loop source i₀ i = (i ≤ length source) × (foreign i (drop i source) ≡ foreign 0 source)
@@ -18,14 +16,20 @@ Inv-loop source i₀ i = (i ≤ length source) × (foreign i (drop i source) ≡
 abbrev μ-loop : tie.MeasureT-loop
 μ-loop source i₀ i = length source - i
 
+is-ascii-requires : tie.Need-is-ascii-requires Inv-loop μ-loop
+is-ascii-requires c κs = search needs
+
+returns : tie.Need-returns Inv-loop μ-loop
+returns c = ascii-place _ (sym (c .before .is-ascii .ensures) ∙ c .if1 .taken)
+
 loop-holds : tie.Need-loop-holds Inv-loop μ-loop
 loop-holds c = (search needs, refl)
 
-shared-slice-read-if1 : tie.Need-shared-slice-read-if1 Inv-loop μ-loop
-shared-slice-read-if1 c = search needs
+shared-slice-read-if2 : tie.Need-shared-slice-read-if2 Inv-loop μ-loop
+shared-slice-read-if2 c = search needs
 
-returns : tie.Need-returns Inv-loop μ-loop
-returns c = place-found _ (sym (c .before .before .before .loop .inv .1) ∙ foreign-here _ _ (c .before .before .loop-test .taken) (c .if1 .taken))
+returns-2 : tie.Need-returns-2 Inv-loop μ-loop
+returns-2 c = place-found _ (sym (c .before .before .before .loop .inv .1) ∙ foreign-here _ _ (c .before .before .loop-test .taken) (c .if2 .taken))
 
 add-i : tie.Need-add-i Inv-loop μ-loop
 add-i c = search needs
@@ -34,10 +38,10 @@ loop-less : tie.Need-loop-less Inv-loop μ-loop
 loop-less c = search needs
 
 loop-again : tie.Need-loop-again Inv-loop μ-loop
-loop-again c = (omega arith, foreign-on _ _ (c .before .before .loop-test .taken) (c .if1 .left) ∙ c .before .before .before .loop .inv .1)
+loop-again c = (omega arith, foreign-on _ _ (c .before .before .loop-test .taken) (c .if2 .left) ∙ c .before .before .before .loop .inv .1)
 
-returns-2 : tie.Need-returns-2 Inv-loop μ-loop
-returns-2 c = place-none _ (sym (c .before .loop .inv .1) ∙ foreign-end _ _ (c .loop-test .left)) (omega arith)
+returns-3 : tie.Need-returns-3 Inv-loop μ-loop
+returns-3 c = place-none _ (sym (c .before .loop .inv .1) ∙ foreign-end _ _ (c .loop-test .left)) (omega arith)
 
 pub foreign-spec : {M : Type 1} → statement M
 foreign-spec =
@@ -45,10 +49,12 @@ foreign-spec =
     (tie.spec
     Inv-loop
     μ-loop
-    loop-holds
-    shared-slice-read-if1
+    is-ascii-requires
     returns
+    loop-holds
+    shared-slice-read-if2
+    returns-2
     add-i
     loop-less
     loop-again
-    returns-2)
+    returns-3)

@@ -28,8 +28,8 @@ enum-told c = search needs
 enum-known-q : tie.Need-enum-known-q
 enum-known-q c = search needs
 
-cast-size : tie.Need-cast-size
-cast-size c = search needs
+cast-bytes : tie.Need-cast-bytes
+cast-bytes c = search needs
 
 refused-at-requires : tie.Need-refused-at-requires
 refused-at-requires c κs = search needs
@@ -82,7 +82,7 @@ one-statement-spec =
     enum-known-r
     enum-told
     enum-known-q
-    cast-size
+    cast-bytes
     refused-at-requires
     returns
     statement-requires-2

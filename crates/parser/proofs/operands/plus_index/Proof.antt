@@ -51,6 +51,9 @@ returns-2 : tie.Need-returns-2
 unfolding plusIndex _>>_
 returns-2 c = attempt-looks _ (then-finds _ (subst (Passes _ _ _ _) (c .before .before .before .before .before .before .before .before .q .given .1) (c .before .before .before .before .before .before .before .before .before .before .next .ensures) .so) (then-finds _ is-ahead (rw (is-register _ (c .before .before .before .before .before .before .name-ahead .ensures) (c .before .before .before .before .s .given .1), sym (c .before .before .is-index .ensures) ∙ c .before .if1 .taken) (c .index .ensures))))
 
+cast-t14 : tie.Need-cast-t14
+cast-t14 c = search needs
+
 returns-3 : tie.Need-returns-3
 unfolding plusIndex _>>_
 returns-3 c = record { so = attempt-denied _ (first-denied _ (subst (Passes _ _ _ _) (c .before .e .given .1) (c .before .before .before .next .ensures) .so)) }
@@ -73,5 +76,6 @@ plus-index-spec =
     is-index-requires
     index-requires
     returns-2
+    cast-t14
     returns-3
     returns-4)

@@ -41,6 +41,9 @@ returns-2 : tie.Need-returns-2
 unfolding registersAhead _>>_
 returns-2 c = then-registers _ is-ahead (then-registers _ is-passed (rw (is-register _ (c .before .before .before .before .before .before .before .name-ahead .ensures) (c .before .before .before .before .before .r .given .1), ap₂ _||_ (sym (c .before .before .before .is-base .ensures)) (sym (c .before .before .is-index .ensures)) ∙ c .before .if1 .taken) (c .first .ensures)))
 
+cast-t10 : tie.Need-cast-t10
+cast-t10 c = search needs
+
 returns-3 : tie.Need-returns-3
 unfolding registersAhead _>>_
 returns-3 c = record { so = then-denied _ is-ahead (then-denied _ is-passed (rw (is-register _ (c .before .before .before .before .before .before .name-ahead .ensures) (c .before .before .before .before .r .given .1), ap₂ _||_ (sym (c .before .before .is-base .ensures)) (sym (c .before .is-index .ensures)) ∙ c .if1 .left) (refuses (encoding _ _ _ _) refl))) }
@@ -56,4 +59,5 @@ registers-ahead-spec =
     is-index-requires
     first-requires
     returns-2
+    cast-t10
     returns-3)

@@ -30,17 +30,20 @@ cast-scan c = search needs
 scan-requires : tie.Need-scan-requires Inv-loop μ-loop
 scan-requires c κs = search needs
 
+cast-kind : tie.Need-cast-kind Inv-loop μ-loop
+cast-kind c = search needs
+
 cast-end : tie.Need-cast-end Inv-loop μ-loop
-cast-end c = omega (arith, ap (λ (t : Scanned). t .end) (c .before .scan .ensures), size-le (now (c .before .before .before .before .args .src)) (c .before .before .loop .at), c .before .before .before .before .pre, c .before .before .loop .inv .1)
+cast-end c = omega (arith, ap (λ (t : Scanned). t .end) (c .before .before .scan .ensures), size-le (now (c .before .before .before .before .before .args .src)) (c .before .before .before .loop .at), c .before .before .before .before .before .pre, c .before .before .before .loop .inv .1)
 
 loop-less : tie.Need-loop-less Inv-loop μ-loop
-loop-less c = let g = (gap-step (now (c .before .before .before .before .before .args .src)) (c .before .before .before .loop .at) (ap (λ (t : Scanned). t .kind) (c .before .before .scan .ensures)) (ap (λ (t : Scanned). t .end) (c .before .before .scan .ensures)) (gap-not-end (c .before .before .scan .result .kind) (c .if1 .taken)) (c .if1 .taken)) in omega (arith, g .1, g .2)
+loop-less c = let g = (gap-step (now (c .before .before .before .before .before .before .args .src)) (c .before .before .before .before .loop .at) (ap (λ (t : Scanned). t .kind) (c .before .before .before .scan .ensures)) (ap (λ (t : Scanned). t .end) (c .before .before .before .scan .ensures)) (gap-not-end (c .before .before .before .scan .result .kind) (c .if1 .taken)) (c .if1 .taken)) in omega (arith, g .1, g .2)
 
 loop-again : tie.Need-loop-again Inv-loop μ-loop
-loop-again c = let g = (gap-step (now (c .before .before .before .before .before .args .src)) (c .before .before .before .loop .at) (ap (λ (t : Scanned). t .kind) (c .before .before .scan .ensures)) (ap (λ (t : Scanned). t .end) (c .before .before .scan .ensures)) (gap-not-end (c .before .before .scan .result .kind) (c .if1 .taken)) (c .if1 .taken)) in (sym (g .0) ∙ c .before .before .before .loop .inv .0, omega (arith, g .2, c .before .before .before .before .before .pre))
+loop-again c = let g = (gap-step (now (c .before .before .before .before .before .before .args .src)) (c .before .before .before .before .loop .at) (ap (λ (t : Scanned). t .kind) (c .before .before .before .scan .ensures)) (ap (λ (t : Scanned). t .end) (c .before .before .before .scan .ensures)) (gap-not-end (c .before .before .before .scan .result .kind) (c .if1 .taken)) (c .if1 .taken)) in (sym (g .0) ∙ c .before .before .before .before .loop .inv .0, omega (arith, g .2, c .before .before .before .before .before .before .pre))
 
 returns : tie.Need-returns Inv-loop μ-loop
-returns c = record { tokens = sym (c .before .before .before .loop .inv .0) ∙ token-step _ _ (ap (λ (t : Scanned). t .kind) (c .before .before .scan .ensures)) (ap (λ (t : Scanned). t .end) (c .before .before .scan .ensures)) (ap (λ (t : Scanned). t .value) (c .before .before .scan .ensures)) (c .if1 .left) }
+returns c = record { tokens = sym (c .before .before .before .before .loop .inv .0) ∙ token-step _ _ (ap (λ (t : Scanned). t .kind) (c .before .before .before .scan .ensures)) (ap (λ (t : Scanned). t .end) (c .before .before .before .scan .ensures)) (ap (λ (t : Scanned). t .value) (c .before .before .before .scan .ensures)) (c .if1 .left) }
 
 pub fetch-spec : {M : Type 1} → statement M
 fetch-spec =
@@ -51,6 +54,7 @@ fetch-spec =
     loop-holds
     cast-scan
     scan-requires
+    cast-kind
     cast-end
     loop-less
     loop-again

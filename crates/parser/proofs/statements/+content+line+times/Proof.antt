@@ -13,7 +13,7 @@ use Rattle.rules.specs.Reader.{_>>_}
 use Rattle.rules.specs.Expressions.{expression}
 use Rattle.parser.specs.Views.{Passes, Reads}
 use Rattle.parser.proofs.Chain.{called, called-denied, comes, lifts, lifts-denied, refuses-here, reads-done, reads-refused, reads-by, hands-on}
-use Rattle.parser.proofs.StatementsForms.{line-operation, line-directive, line-else, times-none, times-past, times-denied, content-none, content-denied, content-reads}
+use Rattle.parser.proofs.StatementsForms.{key-operation, key-directive, key-label, line-else, times-none, times-past, times-denied, content-none, content-denied, content-reads}
 use Prim.Native.Nat.{ℕ, _<_}
 use borrow.Fn.Kinds.{In}
 use borrow.Fn.PlainCycle.{Measures, is, falls, and}
@@ -26,8 +26,9 @@ use Rattle.parser.proofs.statements.+content+line+times.Lts-line as lin
 use Rattle.parser.proofs.statements.times.Reads as times
 use Rattle.parser.proofs.statements.times.Kinds as times-kinds
 use Rattle.parser.proofs.statements.+content+line+times.Lts-times as times-lts
-use Rattle.names.proofs.directive_of.Reads as directive-of-reads
-use Rattle.names.proofs.operation.Reads as operation-reads
+use Rattle.names.proofs.directive_by.Reads as directive-by-reads
+use Rattle.names.proofs.operation_by.Reads as operation-by-reads
+use Rattle.names.proofs.word_key.Reads as word-key-reads
 use Rattle.parser.proofs.expressions.expression.Reads as expression-reads
 use Rattle.parser.proofs.state.is_line_end.Reads as is-line-end-reads
 use Rattle.parser.proofs.state.next.Reads as next-reads
@@ -46,7 +47,7 @@ abbrev μ-content : Measures 3 content-kinds.ps ℕ
 μ-content κs a = 3 * a .1 .1 .1 .1 .1 .1 .0 + 2
 
 abbrev μ-line : Measures 3 line-kinds.ps ℕ
-μ-line κs a = 3 * a .1 .1 .1 .1 .1 .0 + 1
+μ-line κs a = 3 * a .1 .1 .1 .1 .1 .1 .1 .1 .1 .0 + 1
 
 abbrev μ-times : Measures 3 times-kinds.ps ℕ
 μ-times κs a = 3 * a .1 .1 .1 .1 .1 .0
@@ -109,7 +110,7 @@ content-returns-3 t c = reads-done (content-reads _ _ _ (sym (c .before .before 
 
 abbrev line-calls : ℕ → line-lts.Claims
 line-calls t =
-    (refuse-here-reads.Asked, refuse-here-reads.Learnt, text-reads.Asked, text-reads.Learnt, operation-reads.Asked, operation-reads.Learnt, instruction-reads.Asked, instruction-reads.Learnt, directive-of-reads.Asked, directive-of-reads.Learnt, constant-reads.Asked, constant-reads.Learnt, data-of-reads.Asked, data-of-reads.Learnt, times-below t, times.Post, label-reads.Asked, label-reads.Learnt)
+    (refuse-here-reads.Asked, refuse-here-reads.Learnt, text-reads.Asked, text-reads.Learnt, word-key-reads.Asked, word-key-reads.Learnt, directive-by-reads.Asked, directive-by-reads.Learnt, constant-reads.Asked, constant-reads.Learnt, data-of-reads.Asked, data-of-reads.Learnt, times-below t, times.Post, operation-by-reads.Asked, operation-by-reads.Learnt, instruction-reads.Asked, instruction-reads.Learnt, label-reads.Asked, label-reads.Learnt)
 
 line-refuse-here-requires : (t : ℕ) → line-lts.Need-refuse-here-requires (line-calls t) (line-at t) line.Post
 line-refuse-here-requires t c κs = search needs
@@ -120,86 +121,89 @@ line-returns t c = reads-by (line-else _ _ _ _ (ne-eqb _ _ (c .before .if1 .take
 line-text-requires : (t : ℕ) → line-lts.Need-text-requires (line-calls t) (line-at t) line.Post
 line-text-requires t c κs = search needs
 
-line-operation-requires : (t : ℕ) → line-lts.Need-operation-requires (line-calls t) (line-at t) line.Post
-line-operation-requires t c κs = c .before .before .before .before .before .pre .1 .1
+line-word-key-requires : (t : ℕ) → line-lts.Need-word-key-requires (line-calls t) (line-at t) line.Post
+line-word-key-requires t c κs = search needs
+
+line-directive-by-requires : (t : ℕ) → line-lts.Need-directive-by-requires (line-calls t) (line-at t) line.Post
+line-directive-by-requires t c κs = search needs
+
+line-enum-told : (t : ℕ) → line-lts.Need-enum-told (line-calls t) (line-at t) line.Post
+line-enum-told t c = search needs
+
+line-constant-requires : (t : ℕ) → line-lts.Need-constant-requires (line-calls t) (line-at t) line.Post
+line-constant-requires t c κs = (c .before .before .before .before .before .before .before .before .before .pre .1 .0, c .before .before .before .before .before .before .if1 .left)
+
+line-enum-told-2 : (t : ℕ) → line-lts.Need-enum-told-2 (line-calls t) (line-at t) line.Post
+line-enum-told-2 t c = search needs
+
+line-data-of-requires : (t : ℕ) → line-lts.Need-data-of-requires (line-calls t) (line-at t) line.Post
+line-data-of-requires t c κs = (c .before .before .before .before .before .before .before .before .before .pre .1 .0, c .before .before .before .before .before .before .if1 .left, omega arith, omega arith)
+
+line-enum-told-3 : (t : ℕ) → line-lts.Need-enum-told-3 (line-calls t) (line-at t) line.Post
+line-enum-told-3 t c = search needs
+
+line-data-of-requires-2 : (t : ℕ) → line-lts.Need-data-of-requires-2 (line-calls t) (line-at t) line.Post
+line-data-of-requires-2 t c κs = (c .before .before .before .before .before .before .before .before .before .pre .1 .0, c .before .before .before .before .before .before .if1 .left, omega arith, omega arith)
+
+line-enum-told-4 : (t : ℕ) → line-lts.Need-enum-told-4 (line-calls t) (line-at t) line.Post
+line-enum-told-4 t c = search needs
+
+line-times-requires : (t : ℕ) → line-lts.Need-times-requires (line-calls t) (line-at t) line.Post
+line-times-requires t c κs = (omega (arith, c .before .before .before .before .before .before .before .before .before .pre .0), (c .before .before .before .before .before .before .before .before .before .pre .1 .0, c .before .before .before .before .before .before .before .before .before .pre .1 .1, c .before .before .before .before .before .before .if1 .left))
+
+line-enum-told-5 : (t : ℕ) → line-lts.Need-enum-told-5 (line-calls t) (line-at t) line.Post
+line-enum-told-5 t c = search needs
+
+line-operation-by-requires : (t : ℕ) → line-lts.Need-operation-by-requires (line-calls t) (line-at t) line.Post
+line-operation-by-requires t c κs = (c .before .before .before .before .before .before .before .before .pre .1 .1, c .before .before .before .word-key .ensures .1)
 
 line-enum-known-operation : (t : ℕ) → line-lts.Need-enum-known-operation (line-calls t) (line-at t) line.Post
 line-enum-known-operation t c = search needs
 
 line-instruction-requires : (t : ℕ) → line-lts.Need-instruction-requires (line-calls t) (line-at t) line.Post
-line-instruction-requires t c κs = (c .before .before .before .before .before .before .before .before .before .before .pre .1 .0, (c .before .before .before .before .before .before .if1 .left))
-
-line-enum-told : (t : ℕ) → line-lts.Need-enum-told (line-calls t) (line-at t) line.Post
-line-enum-told t c = search needs
-
-line-directive-of-requires : (t : ℕ) → line-lts.Need-directive-of-requires (line-calls t) (line-at t) line.Post
-line-directive-of-requires t c κs = search needs
-
-line-enum-told-2 : (t : ℕ) → line-lts.Need-enum-told-2 (line-calls t) (line-at t) line.Post
-line-enum-told-2 t c = search needs
-
-line-constant-requires : (t : ℕ) → line-lts.Need-constant-requires (line-calls t) (line-at t) line.Post
-line-constant-requires t c κs = (c .before .before .before .before .before .before .before .before .before .before .before .before .pre .1 .0, (c .before .before .before .before .before .before .before .before .if1 .left))
-
-line-enum-told-3 : (t : ℕ) → line-lts.Need-enum-told-3 (line-calls t) (line-at t) line.Post
-line-enum-told-3 t c = search needs
-
-line-data-of-requires : (t : ℕ) → line-lts.Need-data-of-requires (line-calls t) (line-at t) line.Post
-line-data-of-requires t c κs = (c .before .before .before .before .before .before .before .before .before .before .before .before .pre .1 .0, (c .before .before .before .before .before .before .before .before .if1 .left), omega arith, omega arith)
-
-line-enum-told-4 : (t : ℕ) → line-lts.Need-enum-told-4 (line-calls t) (line-at t) line.Post
-line-enum-told-4 t c = search needs
-
-line-data-of-requires-2 : (t : ℕ) → line-lts.Need-data-of-requires-2 (line-calls t) (line-at t) line.Post
-line-data-of-requires-2 t c κs = (c .before .before .before .before .before .before .before .before .before .before .before .before .pre .1 .0, (c .before .before .before .before .before .before .before .before .if1 .left), omega arith, omega arith)
-
-line-enum-told-5 : (t : ℕ) → line-lts.Need-enum-told-5 (line-calls t) (line-at t) line.Post
-line-enum-told-5 t c = search needs
-
-line-times-requires : (t : ℕ) → line-lts.Need-times-requires (line-calls t) (line-at t) line.Post
-line-times-requires t c κs = (omega (arith, c .before .before .before .before .before .before .before .before .before .before .before .before .pre .0), (c .before .before .before .before .before .before .before .before .before .before .before .before .pre .1 .0, c .before .before .before .before .before .before .before .before .before .before .before .before .pre .1 .1, (c .before .before .before .before .before .before .before .before .if1 .left)))
+line-instruction-requires t c κs = (c .before .before .before .before .before .before .before .before .before .before .before .before .before .pre .1 .0, c .before .before .before .before .before .before .before .before .before .before .if1 .left)
 
 line-enum-told-6 : (t : ℕ) → line-lts.Need-enum-told-6 (line-calls t) (line-at t) line.Post
 line-enum-told-6 t c = search needs
 
 line-label-requires : (t : ℕ) → line-lts.Need-label-requires (line-calls t) (line-at t) line.Post
-line-label-requires t c κs = (c .before .before .before .before .before .before .before .before .before .before .before .before .pre .1 .0, (c .before .before .before .before .before .before .before .before .if1 .left))
+line-label-requires t c κs = (c .before .before .before .before .before .before .before .before .before .before .before .before .pre .1 .0, c .before .before .before .before .before .before .before .before .before .if1 .left)
 
 line-same-length : (t : ℕ) → line-lts.Need-same-length (line-calls t) (line-at t) line.Post
 line-same-length t c = search needs
 
 line-returns-2 : (t : ℕ) → line-lts.Need-returns-2 (line-calls t) (line-at t) line.Post
-line-returns-2 t c = reads-by (line-operation _ _ _ _ (c .before .before .before .before .before .before .before .before .before .if1 .left) (c .before .before .before .before .before .before .before .before .text .ensures) (c .before .before .before .before .before .before .before .operation .ensures) (c .before .before .before .before .before .operation2 .given .1)) (c .before .before .instruction .ensures)
+line-returns-2 t c = reads-by (key-directive _ _ _ _ (c .before .before .before .before .before .before .before .before .before .if1 .left) (c .before .before .before .before .before .before .before .before .before .before .before .before .pre .1 .1) (c .before .before .before .before .before .before .before .before .before .before .before .shared-slice-known .given) (c .before .before .before .before .before .before .before .before .text .ensures) (c .before .before .before .before .before .before .before .word-key .ensures .0) (c .before .before .before .before .before .before .directive-by .ensures) (c .before .before .before .before .enum-told .given .1) tt) (c .before .before .constant .ensures)
 
 line-same-length-2 : (t : ℕ) → line-lts.Need-same-length-2 (line-calls t) (line-at t) line.Post
 line-same-length-2 t c = search needs
 
 line-returns-3 : (t : ℕ) → line-lts.Need-returns-3 (line-calls t) (line-at t) line.Post
-line-returns-3 t c = reads-by (line-directive _ _ _ _ (c .before .before .before .before .before .before .before .before .before .before .before .if1 .left) (c .before .before .before .before .before .before .before .before .before .before .text .ensures) (c .before .before .before .before .before .before .before .before .before .operation .ensures) (c .before .before .before .before .before .before .before .enum-told .given .1) (c .before .before .before .before .before .before .directive-of .ensures) (c .before .before .before .before .enum-told2 .given .1)) (c .before .before .constant .ensures)
+line-returns-3 t c = reads-by (key-directive _ _ _ _ (c .before .before .before .before .before .before .before .before .before .if1 .left) (c .before .before .before .before .before .before .before .before .before .before .before .before .pre .1 .1) (c .before .before .before .before .before .before .before .before .before .before .before .shared-slice-known .given) (c .before .before .before .before .before .before .before .before .text .ensures) (c .before .before .before .before .before .before .before .word-key .ensures .0) (c .before .before .before .before .before .before .directive-by .ensures) (c .before .before .before .before .enum-told2 .given .1) tt) (c .before .before .data-of .ensures)
 
 line-same-length-3 : (t : ℕ) → line-lts.Need-same-length-3 (line-calls t) (line-at t) line.Post
 line-same-length-3 t c = search needs
 
 line-returns-4 : (t : ℕ) → line-lts.Need-returns-4 (line-calls t) (line-at t) line.Post
-line-returns-4 t c = reads-by (line-directive _ _ _ _ (c .before .before .before .before .before .before .before .before .before .before .before .if1 .left) (c .before .before .before .before .before .before .before .before .before .before .text .ensures) (c .before .before .before .before .before .before .before .before .before .operation .ensures) (c .before .before .before .before .before .before .before .enum-told .given .1) (c .before .before .before .before .before .before .directive-of .ensures) (c .before .before .before .before .enum-told3 .given .1)) (c .before .before .data-of .ensures)
+line-returns-4 t c = reads-by (key-directive _ _ _ _ (c .before .before .before .before .before .before .before .before .before .if1 .left) (c .before .before .before .before .before .before .before .before .before .before .before .before .pre .1 .1) (c .before .before .before .before .before .before .before .before .before .before .before .shared-slice-known .given) (c .before .before .before .before .before .before .before .before .text .ensures) (c .before .before .before .before .before .before .before .word-key .ensures .0) (c .before .before .before .before .before .before .directive-by .ensures) (c .before .before .before .before .enum-told3 .given .1) tt) (c .before .before .data-of2 .ensures)
 
 line-same-length-4 : (t : ℕ) → line-lts.Need-same-length-4 (line-calls t) (line-at t) line.Post
 line-same-length-4 t c = search needs
 
 line-returns-5 : (t : ℕ) → line-lts.Need-returns-5 (line-calls t) (line-at t) line.Post
-line-returns-5 t c = reads-by (line-directive _ _ _ _ (c .before .before .before .before .before .before .before .before .before .before .before .if1 .left) (c .before .before .before .before .before .before .before .before .before .before .text .ensures) (c .before .before .before .before .before .before .before .before .before .operation .ensures) (c .before .before .before .before .before .before .before .enum-told .given .1) (c .before .before .before .before .before .before .directive-of .ensures) (c .before .before .before .before .enum-told4 .given .1)) (c .before .before .data-of2 .ensures)
+line-returns-5 t c = reads-by (key-directive _ _ _ _ (c .before .before .before .before .before .before .before .before .before .if1 .left) (c .before .before .before .before .before .before .before .before .before .before .before .before .pre .1 .1) (c .before .before .before .before .before .before .before .before .before .before .before .shared-slice-known .given) (c .before .before .before .before .before .before .before .before .text .ensures) (c .before .before .before .before .before .before .before .word-key .ensures .0) (c .before .before .before .before .before .before .directive-by .ensures) (c .before .before .before .before .enum-told4 .given .1) tt) (c .before .before .times .ensures)
 
 line-same-length-5 : (t : ℕ) → line-lts.Need-same-length-5 (line-calls t) (line-at t) line.Post
 line-same-length-5 t c = search needs
 
 line-returns-6 : (t : ℕ) → line-lts.Need-returns-6 (line-calls t) (line-at t) line.Post
-line-returns-6 t c = reads-by (line-directive _ _ _ _ (c .before .before .before .before .before .before .before .before .before .before .before .if1 .left) (c .before .before .before .before .before .before .before .before .before .before .text .ensures) (c .before .before .before .before .before .before .before .before .before .operation .ensures) (c .before .before .before .before .before .before .before .enum-told .given .1) (c .before .before .before .before .before .before .directive-of .ensures) (c .before .before .before .before .enum-told5 .given .1)) (c .before .before .times .ensures)
+line-returns-6 t c = reads-by (key-operation _ _ _ _ (c .before .before .before .before .before .before .before .before .before .before .before .before .before .if1 .left) (c .before .before .before .before .before .before .before .before .before .before .before .before .before .before .before .before .pre .1 .1) (c .before .before .before .before .before .before .before .before .before .before .before .before .before .before .before .shared-slice-known .given) (c .before .before .before .before .before .before .before .before .before .before .before .before .text .ensures) (c .before .before .before .before .before .before .before .before .before .before .before .word-key .ensures .0) (c .before .before .before .before .before .before .before .operation-by .ensures) (c .before .before .before .before .before .operation .given .1)) (c .before .before .instruction .ensures)
 
 line-same-length-6 : (t : ℕ) → line-lts.Need-same-length-6 (line-calls t) (line-at t) line.Post
 line-same-length-6 t c = search needs
 
 line-returns-7 : (t : ℕ) → line-lts.Need-returns-7 (line-calls t) (line-at t) line.Post
-line-returns-7 t c = reads-by (line-directive _ _ _ _ (c .before .before .before .before .before .before .before .before .before .before .before .if1 .left) (c .before .before .before .before .before .before .before .before .before .before .text .ensures) (c .before .before .before .before .before .before .before .before .before .operation .ensures) (c .before .before .before .before .before .before .before .enum-told .given .1) (c .before .before .before .before .before .before .directive-of .ensures) (c .before .before .before .before .enum-told6 .given .1)) (c .before .before .label .ensures)
+line-returns-7 t c = reads-by (key-label _ _ _ _ (c .before .before .before .before .before .before .before .before .before .before .before .before .if1 .left) (c .before .before .before .before .before .before .before .before .before .before .before .before .before .before .before .pre .1 .1) (c .before .before .before .before .before .before .before .before .before .before .before .before .before .before .shared-slice-known .given) (c .before .before .before .before .before .before .before .before .before .before .before .text .ensures) (c .before .before .before .before .before .before .before .before .before .before .word-key .ensures .0) (c .before .before .before .before .before .before .operation-by .ensures) (c .before .before .before .before .enum-told6 .given .1) (c .before .before .before .before .before .before .before .before .before .directive-by .ensures) (c .before .before .before .before .before .before .before .enum-told5 .given .1)) (c .before .before .label .ensures)
 
 abbrev times-calls : ℕ → times-lts.Claims
 times-calls t =
@@ -289,19 +293,20 @@ pub +content+line+times-spec : {M : Type 1} → statement M
     (line-refuse-here-requires t)
     (line-returns t)
     (line-text-requires t)
-    (line-operation-requires t)
+    (line-word-key-requires t)
+    (line-directive-by-requires t)
+    (line-enum-told t)
+    (line-constant-requires t)
+    (line-enum-told-2 t)
+    (line-data-of-requires t)
+    (line-enum-told-3 t)
+    (line-data-of-requires-2 t)
+    (line-enum-told-4 t)
+    (line-times-requires t)
+    (line-enum-told-5 t)
+    (line-operation-by-requires t)
     (line-enum-known-operation t)
     (line-instruction-requires t)
-    (line-enum-told t)
-    (line-directive-of-requires t)
-    (line-enum-told-2 t)
-    (line-constant-requires t)
-    (line-enum-told-3 t)
-    (line-data-of-requires t)
-    (line-enum-told-4 t)
-    (line-data-of-requires-2 t)
-    (line-enum-told-5 t)
-    (line-times-requires t)
     (line-enum-told-6 t)
     (line-label-requires t)
     (line-same-length t)

@@ -10,46 +10,46 @@ use Rattle.parser.proofs.statements.statements.Statement.{statement}
 use Rattle.parser.proofs.statements.statements.Tie as tie
 use Rattle.parser.proofs.statements.statements.Reads as reads
 use Rattle.parser.proofs.statements.statements.Lts as lts
-use Rattle.parser.proofs.statements.statement.Reads as statement-reads
+use Rattle.parser.proofs.statements.statement_from.Reads as statement-from-reads
 
 abbrev Inv-loop : tie.InvT-loop
-Inv-loop src table out₀ at q₀ w₀ out q w = Runs table src q₀ w₀ out₀ q w out
+Inv-loop src table out₀ at q₀ place₀ out q place = Runs table src q₀ place₀ out₀ q place out
 
 abbrev μ-loop : tie.MeasureT-loop
-μ-loop src table out₀ at q₀ w₀ out q w = size (stateOf src q)
+μ-loop src table out₀ at q₀ place₀ out q place = size (stateOf src q)
 
 loop-holds : tie.Need-loop-holds Inv-loop μ-loop
 loop-holds c = run-starts _ _ _ _ _
 
-statement-requires : tie.Need-statement-requires Inv-loop μ-loop
-statement-requires c κs = c .before .before .before .before .pre
+statement-from-requires : tie.Need-statement-from-requires Inv-loop μ-loop
+statement-from-requires c κs = c .before .before .before .before .pre
 
 enum-known-r : tie.Need-enum-known-r Inv-loop μ-loop
 enum-known-r c = search needs
 
 same-length : tie.Need-same-length Inv-loop μ-loop
-same-length c = c .before .before .before .before .before .statement .kept .1 .1 .0 ∙ run-long _ (c .before .before .before .before .before .before .before .loop .inv)
+same-length c = c .before .before .before .before .before .statement-from .kept .1 .1 .0 ∙ run-long _ (c .before .before .before .before .before .before .before .loop .inv)
 
 returns : tie.Need-returns Inv-loop μ-loop
-returns c = run-denied _ (c .before .before .before .before .before .before .before .loop .inv) ((subst (ReadsStatement _ _ _ _ _ _) (c .before .r .given .1) (c .before .before .before .before .before .statement .ensures)) .so)
+returns c = run-denied _ (c .before .before .before .before .before .before .before .loop .inv) ((subst (ReadsStatement _ _ _ _ _ _) (c .before .r .given .1) (c .before .before .before .before .before .statement-from .ensures)) .so)
 
 enum-known-end : tie.Need-enum-known-end Inv-loop μ-loop
 enum-known-end c = search needs
 
 same-length-2 : tie.Need-same-length-2 Inv-loop μ-loop
-same-length-2 c = c .before .before .before .before .before .statement .kept .1 .1 .0 ∙ run-long _ (c .before .before .before .before .before .before .before .loop .inv)
+same-length-2 c = c .before .before .before .before .before .statement-from .kept .1 .1 .0 ∙ run-long _ (c .before .before .before .before .before .before .before .loop .inv)
 
 returns-2 : tie.Need-returns-2 Inv-loop μ-loop
-returns-2 c = run-ends _ (c .before .before .before .before .before .before .before .loop .inv) ((subst (ReadsStatement _ _ _ _ _ _) (c .before .end .given .1) (c .before .before .before .before .before .statement .ensures)) .so)
+returns-2 c = run-ends _ (c .before .before .before .before .before .before .before .loop .inv) ((subst (ReadsStatement _ _ _ _ _ _) (c .before .end .given .1) (c .before .before .before .before .before .statement-from .ensures)) .so)
 
 enum-known-after : tie.Need-enum-known-after Inv-loop μ-loop
 enum-known-after c = search needs
 
 loop-less : tie.Need-loop-less Inv-loop μ-loop
-loop-less c = statement-falls _ ((subst (ReadsStatement _ _ _ _ _ _) (c .before .after .given .1) (c .before .before .before .before .before .statement .ensures)) .so)
+loop-less c = statement-falls _ ((subst (ReadsStatement _ _ _ _ _ _) (c .before .after .given .1) (c .before .before .before .before .before .statement-from .ensures)) .so)
 
 loop-again : tie.Need-loop-again Inv-loop μ-loop
-loop-again c = run-turns _ (c .before .before .before .before .before .before .before .loop .inv) ((subst (ReadsStatement _ _ _ _ _ _) (c .before .after .given .1) (c .before .before .before .before .before .statement .ensures)) .so)
+loop-again c = run-turns _ (c .before .before .before .before .before .before .before .loop .inv) ((subst (ReadsStatement _ _ _ _ _ _) (c .before .after .given .1) (c .before .before .before .before .before .statement-from .ensures)) .so)
 
 pub statements-spec : {M : Type 1} → statement M
 statements-spec =
@@ -58,7 +58,7 @@ statements-spec =
     Inv-loop
     μ-loop
     loop-holds
-    statement-requires
+    statement-from-requires
     enum-known-r
     same-length
     returns

@@ -6,10 +6,10 @@ use Rattle.rules.specs.Records.{encode}
 use Rattle.parser.specs.Views.{Passes, Reads}
 use Rattle.parser.proofs.StatementsRun.{none-there, none-denied, statement-reads, statement-denied}
 use borrow.Author.Needs.{needs}
-use Rattle.parser.proofs.statements.statement.Statement.{statement}
-use Rattle.parser.proofs.statements.statement.Tie as tie
-use Rattle.parser.proofs.statements.statement.Reads as reads
-use Rattle.parser.proofs.statements.statement.Lts as lts
+use Rattle.parser.proofs.statements.statement_from.Statement.{statement}
+use Rattle.parser.proofs.statements.statement_from.Tie as tie
+use Rattle.parser.proofs.statements.statement_from.Reads as reads
+use Rattle.parser.proofs.statements.statement_from.Lts as lts
 use Rattle.parser.proofs.state.is_line_end.Reads as is-line-end-reads
 use Rattle.parser.proofs.statements.line.Reads as line-reads
 use Rattle.parser.proofs.statements.skip_lines.Reads as skip-lines-reads
@@ -59,8 +59,8 @@ returns-4 : tie.Need-returns-4
 unfolding bytes encode
 returns-4 c = record { so = statement-reads _ ((subst (Passes _ _ _ _) (c .before .before .before .before .before .before .before .before .before .before .before .before .before .before .q .given .1) (c .before .before .before .before .before .before .before .before .before .before .before .before .before .before .before .before .skip-lines .ensures)) .so) (sym (c .before .before .before .before .before .before .before .before .before .before .before .before .is-line-end .ensures) ∙ c .before .before .before .before .before .before .before .before .before .before .before .if1 .left) (c .before .before .before .before .before .before .before .before .before .put-place .ensures) ((subst (Reads _ _ _ _ _ _ _) (c .before .after .given .1) (c .before .before .before .before .before .line .ensures)) .so) }
 
-pub statement-spec : {M : Type 1} → statement M
-statement-spec =
+pub statement-from-spec : {M : Type 1} → statement M
+statement-from-spec =
     tie.close
     (tie.spec
     skip-lines-requires

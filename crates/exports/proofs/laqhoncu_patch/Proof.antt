@@ -1,0 +1,29 @@
+-- The call's contract, through the numbers of its answer; the buffers are as the call leaves them.
+use borrow.Author.Needs.{needs}
+use mathlib.Core.Path.{_≡_, refl, sym, ap, _∙_}
+use Rattle.exports.specs.Readings.{patching}
+use Rattle.exports.proofs.laqhoncu_patch.Statement.{statement}
+use Rattle.exports.proofs.laqhoncu_patch.Tie as tie
+use Rattle.exports.proofs.laqhoncu_patch.Reads as reads
+use Rattle.exports.proofs.laqhoncu_patch.Lts as lts
+use Rattle.exports.proofs.patching_of.Reads as patching-of-reads
+use Rattle.patch.proofs.patch.Reads as patch-reads
+
+patch-requires : tie.Need-patch-requires
+patch-requires c κs = search needs
+
+patching-of-requires : tie.Need-patching-of-requires
+patching-of-requires c κs = search needs
+
+same-length : tie.Need-same-length
+same-length c = search needs
+
+same-length-2 : tie.Need-same-length-2
+same-length-2 c = search needs
+
+returns : tie.Need-returns
+returns c = (c .patching-of .ensures ∙ ap patching (c .before .before .before .before .before .patch .ensures .0), (c .before .before .before .before .before .patch .ensures .1 .0, c .before .before .before .before .before .patch .ensures .1 .1 .0))
+
+pub laqhoncu-patch-spec : {M : Type 1} → statement M
+laqhoncu-patch-spec =
+    tie.close (tie.spec patch-requires patching-of-requires same-length same-length-2 returns)
