@@ -31,9 +31,9 @@ ghost use Rattle.rules.specs.Patch as rules;
 ghost use Rattle.patch.specs.Moves.{Decodes, First, recordsAt};
 ghost use Rattle.patch.specs.Patched.{patchAnswer, Patches, acceptedOf, Measured, AsFullRead};
 
-pub mod alone;
-pub mod lines;
-pub mod moves;
+mod alone;
+mod lines;
+mod moves;
 
 // How many bytes of the edited source and of its listing were written.
 pub enum PatchAnswer {
