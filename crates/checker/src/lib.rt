@@ -10,41 +10,41 @@ ghost use Rattle.rules.specs.Decode.{recordOf};
 ghost use Rattle.checker.specs.Checker.{wellFormedBytes, lettersOf, fieldAt, whole, passes, nextPass, heightOf, stackOf, checkedOf, passedOf};
 
 // The marks that records open with: two letters as a number.
-const ST: usize = 0x5354;
+pub const ST: usize = 0x5354;
 
-const VC: usize = 0x5643;
+pub const VC: usize = 0x5643;
 
-const VL: usize = 0x564c;
+pub const VL: usize = 0x564c;
 
-const VI: usize = 0x5649;
+pub const VI: usize = 0x5649;
 
-const VS: usize = 0x5653;
+pub const VS: usize = 0x5653;
 
-const PF: usize = 0x5046;
+pub const PF: usize = 0x5046;
 
-const IN: usize = 0x494e;
+pub const IN: usize = 0x494e;
 
-const OR: usize = 0x4f52;
+pub const OR: usize = 0x4f52;
 
-const OS: usize = 0x4f53;
+pub const OS: usize = 0x4f53;
 
-const OI: usize = 0x4f49;
+pub const OI: usize = 0x4f49;
 
-const OF: usize = 0x4f46;
+pub const OF: usize = 0x4f46;
 
-const OD: usize = 0x4f44;
+pub const OD: usize = 0x4f44;
 
-const OX: usize = 0x4f58;
+pub const OX: usize = 0x4f58;
 
-const LL: usize = 0x4c4c;
+pub const LL: usize = 0x4c4c;
 
-const LI: usize = 0x4c49;
+pub const LI: usize = 0x4c49;
 
-const LD: usize = 0x4c44;
+pub const LD: usize = 0x4c44;
 
-const LC: usize = 0x4c43;
+pub const LC: usize = 0x4c43;
 
-const LT: usize = 0x4c54;
+pub const LT: usize = 0x4c54;
 
 // What stands of a statement: expressions, operands above them, expressions above those; and whether a line record has closed it.
 struct Stack {

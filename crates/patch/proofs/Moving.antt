@@ -14,7 +14,7 @@ use Rattle.lexer.specs.Text.{if_then_else_}
 use Rattle.rules.specs.Records.{Record, ST, VC, VL, VI, VS, PF, IN, OR, OS, OI, OF, OD, OX, LL, LI, LD, LC, LT, listing}
 use Rattle.rules.specs.Decode.{decode}
 use Rattle.rules.specs.Patch.{statementFrom, recordsBelow, recordsOn}
-use Rattle.rules.proofs.Reencode.{Octets, reencoded}
+use Rattle.rules.proofs.Reencode.{Octets, octets-drop, reencoded}
 use Rattle.rules.proofs.PatchBytes.{kept-bytes, listing-moved}
 use Rattle.records.specs.Writes.{stores}
 use Rattle.rules.specs.Calls.{overwrite}
@@ -44,11 +44,6 @@ exchanged-over s t l a e {l₁} {l₂} {l₃} h k i j m =
 pub octets : (l : List ℕ) → ((i : ℕ) → getD l i 0 < 256) → Octets l
 octets [] h = tt
 octets (c ∷ cs) h = (h 0, octets cs (λ i. h (suc i)))
-
-pub octets-drop : (n : ℕ) (l : List ℕ) → Octets l → Octets (drop n l)
-octets-drop zero l o = o
-octets-drop (suc n) [] o = tt
-octets-drop (suc n) (c ∷ cs) o = octets-drop n cs (o .1)
 
 -- The records from a place on have the bytes from there on.
 pub records-are : (l : List ℕ) (at : ℕ) {rs : List Record} → decode (drop at l) ≡ some rs → recordsAt l at ≡ rs

@@ -15,17 +15,12 @@ use Rattle.lexer.specs.Text.{if_then_else_, maybe, bytes, same}
 use Rattle.rules.specs.Records.{Record, ST, VC, VL, VI, VS, PF, IN, OR, OS, OI, OF, OD, OX, LL, LI, LD, LC, LT, field, fields, encode, listing, moveRecord}
 use Rattle.rules.specs.Decode.{Sized, value, nth, having, dataAt, recordOf, also, recordsFrom, decode}
 use Rattle.rules.specs.Patch.{statementFrom}
-use Rattle.rules.proofs.Reencode.{Octets, reencoded}
+use Rattle.rules.proofs.Reencode.{Octets, octets-drop, also-some, reencoded}
 use Rattle.checker.specs.Checker.{lettersOf}
 use Rattle.checker.proofs.Fields.{field-nth, field-bytes}
 use Rattle.checker.proofs.Arms.{Away}
-use Rattle.patch.proofs.Moving.{octets, octets-drop}
+use Rattle.patch.proofs.Moving.{octets}
 use Rattle.patch.specs.Moves.{recordsAt, first, recordAt, Opens, fieldAt}
-
-also-some : (r : Record) (o : Option (List Record)) {rs : List Record} → also r o ≡ some rs → (q : List Record) × (o ≡ some q) × (rs ≡ r ∷ q)
-unfolding also
-also-some r none h = absurd (true≢false cc)
-also-some r (some q) h = (q, refl, cc)
 
 -- THE FIRST RECORD OF BYTES, and those behind it.
 pub record Split (s : List ℕ) (rs : List Record) : Type 0 where

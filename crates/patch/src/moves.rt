@@ -1,4 +1,15 @@
 // The records of an old listing: where its statements from a place on stand, and those moved.
+use checker::IN;
+use checker::LD;
+use checker::LI;
+use checker::LT;
+use checker::OD;
+use checker::OR;
+use checker::OS;
+use checker::OX;
+use checker::PF;
+use checker::ST;
+use checker::VC;
 use super::lines::copy;
 ghost use mathlib.Core.Path.{_≡_};
 ghost use Prim.Native.Nat.{_+_, _-_, _≤_, _<_};
@@ -15,28 +26,6 @@ fn field(s: &[u8], at: usize) -> usize
 {
     checker::joined(s[at], s[at + 1], s[at + 2], s[at + 3])
 }
-
-const ST: usize = 0x5354;
-
-const VC: usize = 0x5643;
-
-const PF: usize = 0x5046;
-
-const IN: usize = 0x494e;
-
-const OR: usize = 0x4f52;
-
-const OS: usize = 0x4f53;
-
-const OD: usize = 0x4f44;
-
-const OX: usize = 0x4f58;
-
-const LI: usize = 0x4c49;
-
-const LD: usize = 0x4c44;
-
-const LT: usize = 0x4c54;
 
 // How many bytes the record with this mark at a place has.
 fn size(s: &[u8], at: usize, mark: usize) -> usize

@@ -21,7 +21,7 @@ abbrev pub Octets : List ℕ → Type 0
 Octets [] = Unit {0}
 Octets (c ∷ cs) = (c < 256) × Octets cs
 
-octets-drop : (n : ℕ) (s : List ℕ) → Octets s → Octets (drop n s)
+pub octets-drop : (n : ℕ) (s : List ℕ) → Octets s → Octets (drop n s)
 octets-drop zero s h = h
 octets-drop (suc n) [] h = tt
 octets-drop (suc n) (c ∷ cs) h = octets-drop n cs (h .1)
@@ -164,7 +164,7 @@ module _ (m s : List ℕ) (z : Sized) (o : Octets s) where
       pick (same m (bytes "LC")) _ _ z (fielded "LC" 2 (LC (nth 0 s) (nth 1 s)) refl) λ _.
       pick (same m (bytes "LT") && eqb (nth 0 s) 0 && eqb (nth 1 s) 0) _ _ z times-encodes λ _ h. absurd (true≢false cc)
 
-also-some : (r : Record) (o : Option (List Record)) {rs : List Record} → also r o ≡ some rs → (q : List Record) × (o ≡ some q) × (rs ≡ r ∷ q)
+pub also-some : (r : Record) (o : Option (List Record)) {rs : List Record} → also r o ≡ some rs → (q : List Record) × (o ≡ some q) × (rs ≡ r ∷ q)
 unfolding also
 also-some r none h = absurd (true≢false cc)
 also-some r (some q) h = (q, refl, cc)
