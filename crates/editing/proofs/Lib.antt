@@ -1,4 +1,3 @@
-pub mod Saying
 pub mod Lines
 pub mod Said
 pub mod Outcomes

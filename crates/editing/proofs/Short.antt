@@ -19,7 +19,7 @@ use Rattle.parser.specs.Views.{numbersOf}
 use Rattle.printing.specs.Text.{decimal}
 use Rattle.printing.proofs.Room.{decimal-most}
 use Rattle.editing.specs.declared.places.Spot.{Spot}
-use Rattle.editing.specs.Words.{Entry, refusals, saidOf, wordsOf, openWords}
+use Rattle.words.specs.Words.{Entry, refusals, saidOf, wordsOf, openWords}
 use Rattle.editing.specs.Places.{lineStart, spotOf}
 use Rattle.editing.specs.Messages.{spotText, atText, refusalText, doneText, inLine}
 use Rattle.editing.specs.Edits.{byPatch, inFile, ofFile, editLine}

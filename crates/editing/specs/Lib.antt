@@ -1,4 +1,3 @@
-pub mod Words
 pub mod Places
 pub mod Messages
 pub mod Edits

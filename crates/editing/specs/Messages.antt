@@ -7,7 +7,7 @@ use Rattle.lexer.specs.Text.{if_then_else_, bytes}
 use Rattle.parser.specs.declared.state.Refusal.{Refusal}
 use Rattle.printing.specs.Text.{decimal}
 use Rattle.editing.specs.declared.places.Spot.{Spot}
-use Rattle.editing.specs.Words.{wordsOf}
+use Rattle.words.specs.Words.{wordsOf}
 
 unfoldable pub spotText : Spot → List ℕ
 spotText p = bytes " at line " ++ decimal (p .line) ++ bytes ", column " ++ decimal (p .column)

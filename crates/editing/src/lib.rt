@@ -26,7 +26,6 @@ ghost use Rattle.editing.specs.Edits.{byPatch, inFile, editLine, Denied,
 
 pub mod messages;
 pub mod places;
-pub mod words;
 
 // Whether the line was exchanged; then how many bytes the edited source has; and how many the message has.
 pub struct Edited {

@@ -1,10 +1,10 @@
 // What is said about an edit: one line of text, cut off where the buffer ends.
 use crate::places::Spot;
-use crate::words::put_words;
 use parser::state::Refusal;
 use printing::text::put;
 use printing::text::put_all;
 use printing::text::put_decimal;
+use words::put_words;
 ghost use mathlib.Core.Path.{_≡_};
 ghost use Rattle.io.specs.Counts.{Counts};
 ghost use Rattle.printing.specs.Text.{Wrote, Holds};

@@ -1,4 +1,5 @@
 // The records of an old listing: where its statements from a place on stand, and those moved.
+use super::lines::copy;
 use checker::IN;
 use checker::LD;
 use checker::LI;
@@ -10,7 +11,6 @@ use checker::OX;
 use checker::PF;
 use checker::ST;
 use checker::VC;
-use super::lines::copy;
 ghost use mathlib.Core.Path.{_≡_};
 ghost use Prim.Native.Nat.{_+_, _-_, _≤_, _<_};
 ghost use lib.ListN.{length};

@@ -8,7 +8,7 @@ use Rattle.editing.proofs.messages.refusal_text.Tie as tie
 use Rattle.editing.proofs.messages.refusal_text.Reads as reads
 use Rattle.editing.proofs.messages.refusal_text.Lts as lts
 use Rattle.editing.proofs.messages.put_at.Reads as put-at-reads
-use Rattle.editing.proofs.words.put_words.Reads as put-words-reads
+use Rattle.words.proofs.put_words.Reads as put-words-reads
 use Rattle.printing.proofs.text.put.Reads as put-reads
 use Rattle.printing.proofs.text.put_all.Reads as put-all-reads
 

@@ -4,7 +4,7 @@ use mathlib.Core.Path.{_≡_, refl}
 use mathlib.Core.List.{List, [], _∷_}
 use borrow.Author.Tests.{ne-eqb}
 use Rattle.lexer.specs.Text.{bytes}
-use Rattle.editing.specs.Words.{Entry, refusals, saidOf, wordsOf}
+use Rattle.words.specs.Words.{Entry, refusals, saidOf, wordsOf}
 
 -- x is none of the numbers, as the last arm of a `match` says it
 abbrev pub Away : Type 0 → ℕ → List Entry → Type 0

@@ -1,13 +1,13 @@
 -- In each arm the number is known, so the table computes its words; the last arm is none of its numbers.
 use mathlib.Core.Path.{sym}
 use Rattle.printing.proofs.Writes.{reads-as}
-use Rattle.editing.specs.Words.{refusals, openWords}
-use Rattle.editing.proofs.Saying.{others}
+use Rattle.words.specs.Words.{refusals, openWords}
+use Rattle.words.proofs.Saying.{others}
 use borrow.Author.Needs.{needs}
-use Rattle.editing.proofs.words.put_words.Statement.{statement}
-use Rattle.editing.proofs.words.put_words.Tie as tie
-use Rattle.editing.proofs.words.put_words.Reads as reads
-use Rattle.editing.proofs.words.put_words.Lts as lts
+use Rattle.words.proofs.put_words.Statement.{statement}
+use Rattle.words.proofs.put_words.Tie as tie
+use Rattle.words.proofs.put_words.Reads as reads
+use Rattle.words.proofs.put_words.Lts as lts
 use Rattle.printing.proofs.text.put_all.Reads as put-all-reads
 
 slice-aggregate-put-all : tie.Need-slice-aggregate-put-all

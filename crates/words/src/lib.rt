@@ -1,7 +1,7 @@
 // What each refusal says to a dispatcher.
 use printing::text::put_all;
 ghost use Rattle.printing.specs.Text.{Wrote};
-ghost use Rattle.editing.specs.Words.{wordsOf};
+ghost use Rattle.words.specs.Words.{wordsOf};
 
 pub fn put_words(out: &mut [u8], at: usize, number: u32) -> usize
     ensures { λ r. ⌜ Wrote at (wordsOf number) (now (out .entry)) (now (out .exit)) r ⌝ }
