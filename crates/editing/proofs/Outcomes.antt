@@ -11,7 +11,7 @@ use Rattle.io.specs.Counts.{Counts}
 use Rattle.lexer.specs.Text.{bytes}
 use Rattle.names.specs.Table.{operations}
 use Rattle.rules.specs.Records.{Record, listing}
-use Rattle.rules.specs.Calls.{Result, gives, refuses, overwrite, leaves, fullCall, fullBuffer}
+use Rattle.rules.specs.Calls.{Result, gives, refuses, overwrite, leaves, fullRead, fullBuffer}
 use Rattle.rules.specs.Patch.{Edit, patch, patchSource, patchListing}
 use Rattle.parser.specs.declared.state.Refusal.{Refusal}
 use Rattle.parser.specs.Views.{numbersOf}

@@ -14,7 +14,7 @@ use Rattle.names.specs.Table.{operations}
 use Rattle.rules.specs.Records.{Record, listing}
 use Rattle.rules.specs.Reader.{at, nowhere}
 use Rattle.rules.specs.Statements.{Outcome, accepted, refusal, readFrom}
-use Rattle.rules.specs.Calls.{Result, gives, refuses, tooLong, foreign, ascii, inRoom, overwrite, leaves, fullCall}
+use Rattle.rules.specs.Calls.{Result, gives, refuses, tooLong, foreign, ascii, inRoom, overwrite, leaves, fullRead}
 use Rattle.rules.specs.Decode.{decode}
 use Rattle.rules.specs.WellFormed.{wellFormed}
 use Rattle.rules.specs.Patch.{beginsLine, edited, lineAt, behind, openLine, exchanged, Edit, placedIn, reread, patched, patch, patchSource}
@@ -106,7 +106,7 @@ within old n new room {s} {s′} {l} {l′} {m} {m′} {r} x =
     let t : List ℕ = take (length m) (o .message) in
     let k = length-take (length m) (o .message) in
     let z : r .message ≡ length t = ap (λ (y : Edited). y .message) (x .answer) ∙ message-size (length t) (o .result) in (
-      source-within s (length t) (o .result) (λ e. file-room old n new (length s) (length l) e (fullCall operations old room)) (x .answer) (x .source),
+      source-within s (length t) (o .result) (λ e. file-room old n new (length s) (length l) e (fullRead operations old room)) (x .answer) (x .source),
       rw (z, x .message) (overwritten t m (omega arith)),
       λ h. omega (arith, message-most old n new (length s) (length l) room),
     )

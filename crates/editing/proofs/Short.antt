@@ -12,7 +12,7 @@ use Rattle.lexer.specs.Text.{if_then_else_, bytes}
 use Rattle.names.specs.Table.{operations}
 use Rattle.rules.specs.Records.{Record, listing}
 use Rattle.rules.specs.Reader.{nowhere}
-use Rattle.rules.specs.Calls.{Result, gives, refuses, fullCall}
+use Rattle.rules.specs.Calls.{Result, gives, refuses, fullRead}
 use Rattle.rules.specs.Patch.{Edit, patch}
 use Rattle.parser.specs.declared.state.Refusal.{Refusal}
 use Rattle.parser.specs.Views.{numbersOf}
@@ -101,4 +101,4 @@ module _ (old : List ℕ) (n : ℕ) (new : List ℕ) (roomS roomL : ℕ) where
 
   pub message-most : (room : ℕ) → length (editLine old n new room roomS roomL .message) ≤ 256
   unfolding editLine
-  message-most room = file-most (fullCall operations old room)
+  message-most room = file-most (fullRead operations old room)

@@ -9,7 +9,7 @@ use Rattle.lexer.specs.Text.{bytes}
 use Rattle.names.specs.Table.{operations}
 use Rattle.rules.specs.Records.{Record, listing}
 use Rattle.rules.specs.Reader.{nowhere}
-use Rattle.rules.specs.Calls.{Result, gives, refuses, overwrite, leaves, fullCall}
+use Rattle.rules.specs.Calls.{Result, gives, refuses, overwrite, leaves, fullRead}
 use Rattle.rules.specs.Patch.{Edit, patch, patchSource, patchListing}
 use Rattle.parser.specs.Views.{numbersOf}
 use Rattle.editing.specs.declared.Edited.{Edited}
@@ -41,7 +41,7 @@ ofFile old n new roomS roomL (refuses c) =
 -- The line n of a source exchanged for a text. The rooms are the lengths of the buffers lent for the old listing, the edited source
 -- and its listing.
 unfoldable pub editLine : (old : List ℕ) (n : ℕ) (new : List ℕ) (room roomS roomL : ℕ) → Outcome
-editLine old n new room roomS roomL = ofFile old n new roomS roomL (fullCall operations old room)
+editLine old n new room roomS roomL = ofFile old n new roomS roomL (fullRead operations old room)
 
 -- The answer: whether the source is edited, how long the edited source is, and how much of the message had room.
 abbrev pub answerOf : Result Edit → ℕ → Edited

@@ -286,7 +286,7 @@ fn full_reading(a: FullAnswer) -> FullReading
 // The listing of a source, written into `out` if there is room for all of it.
 #[no_mangle]
 pub extern "C" fn laqhoncu_full_read(source: &[u8], out: &mut [u8]) -> FullReading
-    ensures answer { λ r. ⌜ r ≡ fullReading (fullAnswer (rules.fullCall operations (now (source .entry)) (length (now (out .entry))))) ⌝ }
+    ensures answer { λ r. ⌜ r ≡ fullReading (fullAnswer (rules.fullRead operations (now (source .entry)) (length (now (out .entry))))) ⌝ }
     ensures buffer { λ _. ⌜ now (out .exit) ≡ rules.fullBuffer operations (now (source .entry)) (now (out .entry)) ⌝ }
 {
     let a = reader::full_read(source, out);

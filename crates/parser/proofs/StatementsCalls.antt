@@ -35,7 +35,7 @@ module _ (table : List ℕ) where
     from = rows (tokensFrom place 0 (drop place s))
 
     -- the bytes from the place on are read; they are refused
-    pub record FullRead (i : ℕ) (l l′ : List ℕ) (w : ℕ) : Type 0 where
+    pub record AllRead (i : ℕ) (l l′ : List ℕ) (w : ℕ) : Type 0 where
       pub v : List Record
       pub reads : readFrom table place (drop place s) ≡ accepted v
       pub wrote : Wrote i (listing v) l l′ w
@@ -57,9 +57,9 @@ module _ (table : List ℕ) where
       pub numbers : r ≡ numbersOf cause
 
     module _ {r : Refusal} (h : NotStarted s place r) where
-      pub full-not-started : FullRefused r
+      pub all-not-started : FullRefused r
       unfolding readFrom outcome thence
-      full-not-started = record { cause = h .cause; reads = ap outcome (rows-begin _ from ∙ ap (λ (o : Answer State (Unit {0})). thence o (λ _. statements table (suc (length (drop place s))))) (h .reads)); numbers = h .numbers }
+      all-not-started = record { cause = h .cause; reads = ap outcome (rows-begin _ from ∙ ap (λ (o : Answer State (Unit {0})). thence o (λ _. statements table (suc (length (drop place s))))) (h .reads)); numbers = h .numbers }
 
       pub one-not-started : OneRefused r
       unfolding thence
@@ -74,15 +74,15 @@ module _ (table : List ℕ) where
       unfolding thence
       one-at = one-begin from ∙ ap (λ (o : Answer State (Unit {0})). thence o (λ _. statement table)) (h .reads) ∙ after-nil _
 
-      pub full-read : {i : ℕ} {l l′ : List ℕ} {q₂ : Parser} {w : ℕ} → ReadsStatements table s q i l l′ (Done q₂ w) → FullRead i l l′ w
+      pub all-read : {i : ℕ} {l l′ : List ℕ} {q₂ : Parser} {w : ℕ} → ReadsStatements table s q i l l′ (Done q₂ w) → AllRead i l l′ w
       unfolding readFrom outcome
-      full-read k =
+      all-read k =
           let g = k .so (length (drop place s)) (h .few) .so in
           record { v = g .v; reads = ap outcome (rows-at (suc (length (drop place s))) ∙ g .reads); wrote = g .wrote }
 
-      pub full-refused : {i : ℕ} {l l′ : List ℕ} {r : Refusal} → ReadsStatements table s q i l l′ (Refused r) → FullRefused r
+      pub all-refused : {i : ℕ} {l l′ : List ℕ} {r : Refusal} → ReadsStatements table s q i l l′ (Refused r) → FullRefused r
       unfolding readFrom outcome
-      full-refused k =
+      all-refused k =
           let g = k .so (length (drop place s)) (h .few) .so in
           record { cause = g .cause; reads = ap outcome (rows-at (suc (length (drop place s))) ∙ g .reads); numbers = g .numbers }
 

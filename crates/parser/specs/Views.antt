@@ -9,7 +9,7 @@ use lib.ListN.{length, take, drop}
 use Rattle.lexer.specs.Text.{if_then_else_}
 use Rattle.rules.specs.Lexemes.{Kind, word, number, quoted, mark, newline, blank, comment, invalid, end, bad, Lexeme, tokensFrom}
 use Rattle.rules.specs.Records.{Record, listing}
-use Rattle.rules.specs.Reader.{Refusal as Cause, at, nowhere, encoding, Answer, done, refused, Reader, Line, expect}
+use Rattle.rules.specs.Reader.{Refusal as Cause, at, Values, valuesOf, Answer, done, refused, Reader, Line, next, expect}
 use Rattle.rules.specs.Statements.{Row, State, rows}
 use Rattle.records.specs.Writes.{Wrote}
 use Rattle.parser.specs.declared.state.Parser.{Parser}
@@ -23,11 +23,12 @@ use Rattle.parser.specs.declared.state.Parsed.the-variants.{Done, Refuse
 abbrev pub parserOf : (pos start last kind value : ℕ) → Parser
 parserOf e a l k v = record { pos = e; «token_start» = a; «last_token_end» = l; kind = k; value = v }
 
--- Document 01's number and values of a refusal. A register not there is 255.
+-- The rules' five values of a refusal, as the code holds them.
+abbrev pub valued : Values → Refusal
+valued v = record { number = v .number; from = v .from; to = v .to; first = v .first; second = v .second }
+
 abbrev pub numbersOf : Cause → Refusal
-numbersOf (at n f t) = record { number = n; from = f; to = t; first = 255; second = 255 }
-numbersOf (nowhere n) = record { number = n; from = 0; to = 0; first = 255; second = 255 }
-numbersOf (encoding f t a b) = record { number = 25; from = f; to = t; first = a; second = b }
+numbersOf c = valued (valuesOf c)
 
 -- The kind of a token from its flat form and its text. The end of the source is a line end.
 unfoldable pub kindBy : ℕ → ℕ → List ℕ → Kind
@@ -135,7 +136,8 @@ pub record Comes (L : Level) (s : List ℕ) (p : Parser) {A : Type 0} (m : Reade
   pub reads : m (view L s p) ≡ done [] a (view L s q)
   pub kept : Kept L s p q
 
--- What the code's answers say of the reader that is meant.
+-- What the code's answers say of the reader that is meant. At a refusal the bytes of the lent buffer are free; its length is the same. So
+-- the calls lend a buffer of their own, or read a second time what was not refused.
 abbrev pub ReadsAs : (L : Level) → List ℕ → Parser → Reader (On L) (Unit {0}) → ℕ → List ℕ → List ℕ → Parsed → Type 0
 ReadsAs L s p m i l l′ (Done q w) = Gives L s p m i l l′ q w tt
 ReadsAs L s p m i l l′ (Refused r) = Denies L s p m r
@@ -154,6 +156,8 @@ pub record Passes (L : Level) (s : List ℕ) (p : Parser) (m : Reader (On L) (Un
 pub record Fetches (s : List ℕ) (place a e k v : ℕ) : Type 0 where
   pub tokens : tokensFrom place 0 (drop place s) ≡ tokenOf s a e k v ∷ behind s k e
 
--- Past the token ahead, which has to be the mark of a character.
+-- Past the token ahead, which has to be of the kind of this byte, and is refused otherwise. Where the byte is a mark's, that is `expect`.
 pub record Expects (s : List ℕ) (p : Parser) (byte n : ℕ) (r : Step) : Type 0 where
+  pub there : p .kind ≡ byte → Passes line s p next r
+  pub other : (p .kind ≡ byte → ⊥) → r ≡ Stopped (numbersOf (at n (p .«token_start») (p .pos)))
   pub so : (a : Char) → code a ≡ byte → Plain a → Passes line s p (expect a n) r

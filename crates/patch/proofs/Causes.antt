@@ -1,32 +1,32 @@
--- A line leaves a `times` without its content where the number of its refusal is 34.
+-- A line leaves a `times` without its content where the full read of it alone answers with the number 34.
 -- Assumes nothing.
 use Prim.Native.Nat.{ℕ}
-use mathlib.Core.Path.{_≡_, refl}
-use mathlib.Core.Bool.{false}
+use mathlib.Core.Path.{_≡_, refl, _∙_}
+use mathlib.Core.Bool.{Bool, true, false, true≢false}
 use mathlib.Core.List.{List}
-use mathlib.Core.Logic.{_⊎_, inl, inr}
 use lib.Dec.{eqb}
+use Rattle.names.specs.Table.{operations}
 use Rattle.rules.specs.Records.{Record}
-use Rattle.rules.specs.Reader.{Refusal, at, nowhere, encoding}
-use Rattle.rules.specs.Statements.{accepted, refusal, fullRead}
-use Rattle.rules.specs.Patch.{lacksContent, isOpen, leavesOpen}
-use Rattle.rules.proofs.Move.{Mild}
-use Rattle.rules.proofs.Cut.{Lack, mild-or-lacks, refuses-run}
-use Rattle.parser.specs.declared.state.Refusal.{Refusal as Numbers}
-use Rattle.parser.specs.Views.{numbersOf}
+use Rattle.rules.specs.Calls.{Result, gives, refuses, fullRead}
+use Rattle.rules.specs.Patch.{isOpen, leavesOpen}
+use Rattle.rules.proofs.Alone.{open-any-room}
+use Rattle.parser.specs.declared.state.Refusal.{Refusal}
+use Rattle.reader.specs.declared.FullAnswer.{FullAnswer}
+use Rattle.reader.specs.declared.FullAnswer.the-variants.{Written, Refused}
+use Rattle.reader.specs.Calls.{fullAnswer}
 
-number-tells : (r : Refusal) → Mild r ⊎ Lack r → eqb (numbersOf r .number) 34 ≡ lacksContent r
-unfolding lacksContent
-number-tells (at n f t) h = refl
-number-tells (nowhere n) (inl m) = m
-number-tells (nowhere n) (inr l) = absurd l
-number-tells (encoding f t a b) h = refl
+abbrev answersOpen : FullAnswer → Bool
+answersOpen (Written n) = false
+answersOpen (Refused r) = eqb (r .number) 34
 
-module _ (table : List ℕ) where
-  pub open-denied : (l : List ℕ) {r : Numbers} → (c : Refusal) × (fullRead table l ≡ refusal c) × (r ≡ numbersOf c) → eqb (r .number) 34 ≡ leavesOpen table l
-  unfolding leavesOpen isOpen fullRead
-  open-denied l (c, e, k) = rw (k, e) (number-tells c (mild-or-lacks table 0 l c (refuses-run table 0 l c e)))
+answer-tells : (x : Result (List Record)) → answersOpen (fullAnswer x) ≡ isOpen x
+unfolding isOpen
+answer-tells (gives w) = refl
+answer-tells (refuses c) = refl
 
-  pub open-accepted : (l : List ℕ) {w : List Record} → fullRead table l ≡ accepted w → false ≡ leavesOpen table l
-  unfolding leavesOpen isOpen
-  open-accepted l e = rw e
+module _ (l : List ℕ) (room : ℕ) where
+  pub open-denied : {r : Refusal} → Refused r ≡ fullAnswer (fullRead operations l room) → eqb (r .number) 34 ≡ leavesOpen operations l
+  open-denied e = (λ i. answersOpen (e i)) ∙ answer-tells (fullRead operations l room) ∙ open-any-room operations l room
+
+  pub open-accepted : {n : ℕ} → Written n ≡ fullAnswer (fullRead operations l room) → false ≡ leavesOpen operations l
+  open-accepted e = (λ i. answersOpen (e i)) ∙ answer-tells (fullRead operations l room) ∙ open-any-room operations l room

@@ -18,7 +18,7 @@ use Rattle.names.specs.Table.{operations}
 use Rattle.rules.specs.Records.{Record, listing}
 use Rattle.rules.specs.Reader.{nowhere}
 use Rattle.rules.specs.Statements.{readFrom}
-use Rattle.rules.specs.Calls.{Result, gives, refuses, unless, mostBytes, tooLong, ascii, lent, overwrite, leaves, fullCall, fullBuffer}
+use Rattle.rules.specs.Calls.{Result, gives, refuses, unless, mostBytes, tooLong, ascii, lent, overwrite, leaves, fullRead, fullBuffer}
 use Rattle.rules.specs.Decode.{decode}
 use Rattle.rules.specs.WellFormed.{wellFormed}
 use Rattle.rules.specs.Patch.{beginsLine, above, lineAt, behind, edited, linesFrom, nearest, leavesOpen, openLine, Edit, reread, patched, patch, patchSource, patchListing}
@@ -60,7 +60,7 @@ unfolding fullBuffer
 as-full-read {old} {bytes} {a} {new} {s} {l = l} p = record {
   so = λ room w acc e h f o i.
       let ed : List ℕ = edited old a new in
-      let x : Result (List Record) = fullCall operations ed (length l) in
+      let x : Result (List Record) = fullRead operations ed (length l) in
       let k : patch operations old bytes a new (length s) (length l) ≡ edits ed x = ap (λ (b : List ℕ). patch operations old b a new (length s) (length l)) e ∙ demand-3 operations proper old w a new room (length s) (length l) acc h f o i in
       (p .answer ∙ ap patchAnswer k ∙ answers ed x, p .source ∙ ap (λ (y : Result Edit). patchSource y s) k ∙ sources ed x s, p .listing ∙ ap (λ (y : Result Edit). patchListing y l) k ∙ listings ed x l);
 }

@@ -31,7 +31,7 @@ use Rattle.parser.specs.declared.state.Refusal.{Refusal}
 use Rattle.parser.specs.declared.state.Parsed.the-variants as parsed
 use Rattle.parser.specs.Views.{numbersOf}
 use Rattle.parser.specs.Statements.{Started, NotStarted, ReadsStatements}
-use Rattle.parser.proofs.StatementsCalls.{full-read, full-refused, full-not-started}
+use Rattle.parser.proofs.StatementsCalls.{all-read, all-refused, all-not-started}
 use Rattle.patch.specs.declared.PatchAnswer.{PatchAnswer}
 use Rattle.patch.specs.declared.PatchAnswer.the-variants.{Refused}
 use Rattle.patch.specs.Moves.{First}
@@ -139,11 +139,11 @@ module _ (s : List ℕ) (place : ℕ) where
   reading = readFrom operations place (drop place s)
 
   pub not-begun : {r : Refusal} → NotStarted s place r → (c : Cause) × (reading ≡ refusal c) × (r ≡ numbersOf c)
-  not-begun b = let f = full-not-started operations s place b in (f .cause, f .reads, f .numbers)
+  not-begun b = let f = all-not-started operations s place b in (f .cause, f .reads, f .numbers)
 
   module _ {p : Parser} {l l′ : List ℕ} where
     pub denied : {r : Refusal} → Started s place p → ReadsStatements operations s p 0 l l′ (parsed.Refused r) → (c : Cause) × (reading ≡ refusal c) × (r ≡ numbersOf c)
-    denied b h = let f = full-refused operations s place b h in (f .cause, f .reads, f .numbers)
+    denied b h = let f = all-refused operations s place b h in (f .cause, f .reads, f .numbers)
 
     pub never-denied : {n : ℕ} {r : Refusal} → Measured s place p n → ReadsStatements operations s p 0 l l′ (parsed.Refused r) → ⊥
     never-denied m h = let (c, e, _) = denied (m .started) h in never-both (sym (m .reads) ∙ e)
@@ -159,7 +159,7 @@ module _ (s : List ℕ) (place : ℕ) where
     module _ {p q : Parser} {l l′ : List ℕ} {n : ℕ} where
       pub measured : Started s place p → ReadsStatements operations s p 0 l l′ (parsed.Done q n) → Measured s place p n
       measured b h =
-          let f = full-read operations s place b h in
+          let f = all-read operations s place b h in
           let k : acceptedOf reading ≡ f .v = ap acceptedOf (f .reads) in
           record {
             started = b;
@@ -170,7 +170,7 @@ module _ (s : List ℕ) (place : ℕ) where
       -- read again, they are written
       pub read-again : {m : ℕ} → Measured s place p m → m ≤ length l → ReadsStatements operations s p 0 l l′ (parsed.Done q n) → l′ ≡ stores l 0 (listing (acceptedOf reading))
       read-again b i h =
-          let f = full-read operations s place (b .started) h in
+          let f = all-read operations s place (b .started) h in
           let k : acceptedOf reading ≡ f .v = ap acceptedOf (f .reads) in
           let c : length (listing (acceptedOf reading)) ≡ length (listing (f .v)) = ap (λ (v : List Record). length (listing v)) k in
           f .wrote .wrote (omega (arith, little (f .v) (f .reads))) (omega (arith, b .size)) ∙ ap (λ (v : List Record). stores l 0 (listing v)) (sym k)

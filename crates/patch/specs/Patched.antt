@@ -8,7 +8,7 @@ use Rattle.lexer.specs.Text.{among}
 use Rattle.names.specs.Table.{operations}
 use Rattle.rules.specs.Records.{Record, listing}
 use Rattle.rules.specs.Statements.{Outcome, accepted, refusal, readFrom}
-use Rattle.rules.specs.Calls.{Result, gives, refuses, fullCall, fullBuffer, leaves}
+use Rattle.rules.specs.Calls.{Result, gives, refuses, fullRead, fullBuffer, leaves}
 use Rattle.rules.specs.Patch.{beginsLine, edited, openLine, Edit, patchSource, patchListing}
 use Rattle.parser.specs.declared.state.Parser.{Parser}
 use Rattle.parser.specs.Statements.{Started}
@@ -51,8 +51,8 @@ asPatch n (full.Refused r) = Refused r
 -- many bytes for the listing: the same length, or the same number, span and registers; and it leaves the same bytes there. Where that
 -- read accepts, the edited source is written; else nothing is.
 pub record AsFullRead (old bytes : List ℕ) (a : ℕ) (new s s′ l l′ : List ℕ) (r : PatchAnswer) : Type 0 where
-  pub so : (room : ℕ) (w : List Record) → fullCall operations old room ≡ gives w → bytes ≡ listing w → beginsLine old a ≡ true → among 10 new ≡ false
+  pub so : (room : ℕ) (w : List Record) → fullRead operations old room ≡ gives w → bytes ≡ listing w → beginsLine old a ≡ true → among 10 new ≡ false
       → openLine operations old a new ≡ false → length (edited old a new) ≤ length s
-      → (r ≡ asPatch (length (edited old a new)) (fullAnswer (fullCall operations (edited old a new) (length l))))
-      × (s′ ≡ leaves (λ (v : List Record). edited old a new) (fullCall operations (edited old a new) (length l)) s)
+      → (r ≡ asPatch (length (edited old a new)) (fullAnswer (fullRead operations (edited old a new) (length l))))
+      × (s′ ≡ leaves (λ (v : List Record). edited old a new) (fullRead operations (edited old a new) (length l)) s)
       × (l′ ≡ fullBuffer operations (edited old a new) l)

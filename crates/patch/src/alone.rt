@@ -1,9 +1,9 @@
 // Lines read alone (40): the replaced one, the new one, and the nearest above that has more than blanks and a comment.
-use parser::state::Parsed;
 use parser::state::Step;
 use parser::state::is_line_end;
 use parser::statements::start;
-use parser::statements::statements;
+use reader::FullAnswer;
+use reader::full_read;
 ghost use mathlib.Core.Path.{_≡_};
 ghost use mathlib.Core.Bool.{true, false};
 ghost use mathlib.Core.List.{[]};
@@ -13,18 +13,14 @@ ghost use Rattle.lexer.specs.Text.{maybe, among};
 ghost use Rattle.names.specs.Table.{operations};
 ghost use Rattle.rules.specs.Patch.{beginsLine, above, linesFrom, bareLine, nearest, leavesOpen};
 
-// Whether a line leaves a `times` without its content.
-pub fn leaves_open(line: &[u8], table: &[u8; 936]) -> bool
-    requires { ⌜ (length (now line) ≤ 65536) × (now table ≡ operations) ⌝ }
+// Whether a line leaves a `times` without its content: the full read of it alone is refused with 34. No room is lent, since 4 is not 34.
+pub fn leaves_open(line: &[u8]) -> bool
     ensures { λ r. ⌜ r ≡ leavesOpen operations (now (line .entry)) ⌝ }
 {
     let mut nothing = [0u8; 0];
-    match start(line, 0) {
-        Step::Stopped(r) => r.number == 34,
-        Step::Ahead(p) => match statements(line, table, &mut nothing, 0, p) {
-            Parsed::Refused(r) => r.number == 34,
-            Parsed::Done(_, _) => false,
-        },
+    match full_read(line, &mut nothing) {
+        FullAnswer::Refused(r) => r.number == 34,
+        FullAnswer::Written(_) => false,
     }
 }
 
@@ -58,8 +54,8 @@ fn line_start(source: &[u8], end: usize) -> usize
 }
 
 // Whether the nearest line above a place that has more leaves a `times` open.
-pub fn nearest_open(source: &[u8], place: usize, table: &[u8; 936]) -> bool
-    requires { ⌜ (length (now source) ≤ 65536) × (beginsLine (now source) place ≡ true) × (now table ≡ operations) ⌝ }
+pub fn nearest_open(source: &[u8], place: usize) -> bool
+    requires { ⌜ (length (now source) ≤ 65536) × (beginsLine (now source) place ≡ true) ⌝ }
     ensures { λ r. ⌜ r ≡ maybe (nearest (linesFrom [] (above (now (source .entry)) place))) false (leavesOpen operations) ⌝ }
 {
     let mut below = place;
@@ -68,7 +64,7 @@ pub fn nearest_open(source: &[u8], place: usize, table: &[u8; 936]) -> bool
         let begin = line_start(source, end);
         let line = &source[begin..end];
         if !is_bare(line) {
-            return leaves_open(line, table);
+            return leaves_open(line);
         }
         below = begin;
     }

@@ -137,17 +137,17 @@ fn reread(
 }
 
 // 40: whether the replaced line, the new one, or the nearest above that has more leaves a `times` open.
-fn open_line(old: &[u8], place: usize, end: usize, text: &[u8], table: &[u8; 936]) -> bool
-    requires { ⌜ (length (now old) ≤ 65536) × (length (now text) ≤ 65536) × (rules.beginsLine (now old) place ≡ true) × (end ≡ place + length (rules.lineAt (now old) place)) × (now table ≡ operations) ⌝ }
+fn open_line(old: &[u8], place: usize, end: usize, text: &[u8]) -> bool
+    requires { ⌜ (length (now old) ≤ 65536) × (rules.beginsLine (now old) place ≡ true) × (end ≡ place + length (rules.lineAt (now old) place)) ⌝ }
     ensures { λ r. ⌜ r ≡ rules.openLine operations (now (old .entry)) place (now (text .entry)) ⌝ }
 {
-    if leaves_open(&old[place..end], table) {
+    if leaves_open(&old[place..end]) {
         return true;
     }
-    if leaves_open(text, table) {
+    if leaves_open(text) {
         return true;
     }
-    nearest_open(old, place, table)
+    nearest_open(old, place)
 }
 
 // 41, then 40, then the reading.
@@ -169,10 +169,10 @@ fn check_and_reread(
     if !checker::well_formed(listing, old.len()) {
         return PatchAnswer::Refused(refused_at(41, 0, 0));
     }
-    let table = names::table();
-    if open_line(old, place, end, text, &table) {
+    if open_line(old, place, end, text) {
         return PatchAnswer::Refused(refused_at(40, 0, 0));
     }
+    let table = names::table();
     reread(old, listing, place, end, text, edited, &table, source, out)
 }
 

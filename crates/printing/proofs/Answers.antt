@@ -9,7 +9,7 @@ use lib.Seq.{take-append-seam}
 use Rattle.io.specs.Counts.{Counts}
 use Rattle.names.specs.Table.{operations}
 use Rattle.rules.specs.Records.{Record, listing}
-use Rattle.rules.specs.Calls.{Result, gives, refuses, overwrite, leaves, fullCall, fullBuffer}
+use Rattle.rules.specs.Calls.{Result, gives, refuses, overwrite, leaves, fullRead, fullBuffer}
 use Rattle.rules.proofs.Calls.{Accepted, accepted-call}
 use Rattle.rules.proofs.Table.{proper}
 use Rattle.rules.proofs.Listing.{listing-decodes}
@@ -33,11 +33,11 @@ said {bs} {l} {l′} {r} most h k =
     ((λ room. omega arith), (omega arith, omega (arith, length-take r l′)))
 
 module _ (s l l′ : List ℕ) where
-  pub written : {n : ℕ} → Written n ≡ fullAnswer (fullCall operations s (length l)) → l′ ≡ fullBuffer operations s l → textOf (recordsIn 0 (take n l′)) ≡ answerText (fullCall operations s (length l))
+  pub written : {n : ℕ} → Written n ≡ fullAnswer (fullRead operations s (length l)) → l′ ≡ fullBuffer operations s l → textOf (recordsIn 0 (take n l′)) ≡ answerText (fullRead operations s (length l))
   unfolding fullBuffer answerText leaves overwrite
-  written {n} e f = go (fullCall operations s (length l)) refl e f
+  written {n} e f = go (fullRead operations s (length l)) refl e f
     where
-      go : (x : Result (List Record)) → fullCall operations s (length l) ≡ x → Written n ≡ fullAnswer x → l′ ≡ leaves listing x l → textOf (recordsIn 0 (take n l′)) ≡ answerText x
+      go : (x : Result (List Record)) → fullRead operations s (length l) ≡ x → Written n ≡ fullAnswer x → l′ ≡ leaves listing x l → textOf (recordsIn 0 (take n l′)) ≡ answerText x
       go (gives w) h e f =
           let k : n ≡ length (listing w) = cc in
           let b : take n l′ ≡ listing w = rw (k, f) (take-append-seam (listing w) (drop (length (listing w)) l)) in
@@ -45,9 +45,9 @@ module _ (s l l′ : List ℕ) where
           rw b (ap textOf (text-of-listing (listing w) w (listing-decodes operations proper s w (a .small) (a .short) (a .reads))))
       go (refuses c) h e f = absurd (true≢false cc)
 
-  pub denied : {r : Refusal} → Refused r ≡ fullAnswer (fullCall operations s (length l)) → refusalText (r .number) (r .from) (r .to) (r .first) (r .second) ≡ answerText (fullCall operations s (length l))
+  pub denied : {r : Refusal} → Refused r ≡ fullAnswer (fullRead operations s (length l)) → refusalText (r .number) (r .from) (r .to) (r .first) (r .second) ≡ answerText (fullRead operations s (length l))
   unfolding answerText
-  denied {r} e = go (fullCall operations s (length l)) e
+  denied {r} e = go (fullRead operations s (length l)) e
     where
       go : (x : Result (List Record)) → Refused r ≡ fullAnswer x → refusalText (r .number) (r .from) (r .to) (r .first) (r .second) ≡ answerText x
       go (gives w) e = absurd (true≢false cc)

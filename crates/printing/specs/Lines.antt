@@ -8,7 +8,7 @@ use lib.ListN.{length, take, drop}
 use Rattle.lexer.specs.Text.{maybe, bytes}
 use Rattle.names.specs.Table.{operations, spellings, row, rowsOf}
 use Rattle.rules.specs.Records.{Record, ST, VC, VL, VI, VS, PF, IN, OR, OS, OI, OF, OD, OX, LL, LI, LD, LC, LT}
-use Rattle.rules.specs.Calls.{Result, gives, refuses, fullCall, openCalls}
+use Rattle.rules.specs.Calls.{Result, gives, refuses, fullRead, openCalls}
 use Rattle.rules.specs.Decode.{recordOf}
 use Rattle.parser.specs.declared.state.Refusal.{Refusal}
 use Rattle.parser.specs.Views.{numbersOf}
@@ -65,7 +65,7 @@ unfolding openText line lineOf linesOf textOf refusalText answerText
 openLines = tt
 
 -- The rules' sample, from its source to what is printed; then LD's bytes and a negative value.
-sample : answerText (fullCall operations (bytes "k equ 2\n") 65536) ≡ bytes "ST 0\nLL 0 1\nST 2\nVC 6 7 2\nLC 2 7\nEND 5\n"
+sample : answerText (fullRead operations (bytes "k equ 2\n") 65536) ≡ bytes "ST 0\nLL 0 1\nST 2\nVC 6 7 2\nLC 2 7\nEND 5\n"
 unfolding openLines openCalls spellings row rowsOf operations
 sample = refl
 

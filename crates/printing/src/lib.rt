@@ -14,7 +14,7 @@ ghost use Prim.Native.Nat.{_+_, _*_, _≤_, _<_};
 ghost use lib.ListN.{length};
 ghost use Rattle.io.specs.Counts.{Counts};
 ghost use Rattle.names.specs.Table.{operations};
-ghost use Rattle.rules.specs.Calls.{fullCall};
+ghost use Rattle.rules.specs.Calls.{fullRead};
 ghost use Rattle.rules.specs.Decode.{nth};
 ghost use Rattle.printing.specs.Text.{numbers, Wrote, Holds};
 ghost use Rattle.printing.specs.Lines.{line, textOf, refusalText, answerText, recordsIn};
@@ -252,8 +252,8 @@ pub fn refusal_text(
 // of the listing's, and 109 more.
 pub fn answer_text(source: &[u8], listing: &mut [u8], text: &mut [u8]) -> usize
     ensures within { λ r. ⌜ Counts r (now (text .exit)) ⌝ }
-    ensures text { λ r. ⌜ Holds (answerText (fullCall operations (now (source .entry)) (length (now (listing .entry))))) (now (text .entry)) (now (text .exit)) r ⌝ }
-    ensures whole { λ r. ⌜ (6 * length (now (listing .entry)) + 109 ≤ length (now (text .entry)) → r ≡ length (answerText (fullCall operations (now (source .entry)) (length (now (listing .entry)))))) ⌝ }
+    ensures text { λ r. ⌜ Holds (answerText (fullRead operations (now (source .entry)) (length (now (listing .entry))))) (now (text .entry)) (now (text .exit)) r ⌝ }
+    ensures whole { λ r. ⌜ (6 * length (now (listing .entry)) + 109 ≤ length (now (text .entry)) → r ≡ length (answerText (fullRead operations (now (source .entry)) (length (now (listing .entry)))))) ⌝ }
 {
     match full_read(source, listing) {
         FullAnswer::Written(n) => {

@@ -17,9 +17,9 @@ use Rattle.names.specs.Table.{operations}
 use Rattle.rules.specs.Lexemes.{Lexeme, tokensFrom}
 use Rattle.rules.specs.Records.{Record, listing}
 use Rattle.rules.specs.Reader.{Refusal as Cause, at, nowhere, Answer, done, refused, after, thence, arrive, refusedAs}
-use Rattle.rules.specs.Statements.{Row, State, rows, enter, statements, Outcome, accepted, refusal, outcome, readRows, readFrom, fullRead}
-use Rattle.rules.specs.Calls.{Result, gives, refuses, unless, lent, inRoom, overwrite, leaves, listed, foreign, fullCall, fullBuffer}
-use Rattle.rules.proofs.Calls.{none-foreign}
+use Rattle.rules.specs.Statements.{Row, State, rows, enter, statements, Outcome, accepted, refusal, outcome, readRows, readFrom, reading}
+use Rattle.rules.specs.Calls.{Result, gives, refuses, unless, lent, inRoom, overwrite, leaves, listed, foreign, fullRead, fullBuffer}
+use Rattle.rules.proofs.Calls.{none-foreign, ascii-small}
 use Rattle.rules.proofs.Shape.{Small}
 use Rattle.rules.proofs.Table.{proper}
 use Rattle.rules.proofs.Bound.{bounded}
@@ -35,8 +35,8 @@ use Rattle.reader.specs.declared.FullAnswer.the-variants.{Written, Refus
 use Rattle.parser.specs.Views.{numbersOf, stateOf, whole, Gives, Denies, Reads}
 use Rattle.reader.specs.Lent.{foreignPlace}
 use Rattle.parser.specs.Statements.{begin, Started, NotStarted, ReadsStatements}
-use Rattle.reader.specs.Calls.{fullAnswer, FullRead, WritesAs, Writes}
-use Rattle.parser.proofs.StatementsCalls.{full-read, full-refused, full-not-started}
+use Rattle.reader.specs.Calls.{fullAnswer, ReadsAll, WritesAs, Writes}
+use Rattle.parser.proofs.StatementsCalls.{all-read, all-refused, all-not-started}
 use Rattle.reader.proofs.Lending.{never-foreign}
 
 -- Copying byte by byte.
@@ -59,39 +59,39 @@ all-copied kept out n h = let e : length (take n kept) ≡ n = length-take n kep
 module _ (table s : List ℕ) (p : Parser) (b : Started s 0 p) where
   pub record Accepts (l l′ : List ℕ) (w : ℕ) : Type 0 where
     pub v : List Record
-    pub reads : fullRead table s ≡ accepted v
+    pub reads : reading table s ≡ accepted v
     pub wrote : Wrote 0 (listing v) l l′ w
 
   module _ {l l′ : List ℕ} where
     pub accepts : {q : Parser} {w : ℕ} → ReadsStatements table s p 0 l l′ (parsed.Done q w) → Accepts l l′ w
-    unfolding fullRead
-    accepts h = let f = full-read table s 0 b h in record { v = f .v; reads = f .reads; wrote = f .wrote }
+    unfolding reading
+    accepts h = let f = all-read table s 0 b h in record { v = f .v; reads = f .reads; wrote = f .wrote }
 
-    pub denies : {r : Refusal} → ReadsStatements table s p 0 l l′ (parsed.Refused r) → (c : Cause) × (fullRead table s ≡ refusal c) × (r ≡ numbersOf c)
-    unfolding fullRead
-    denies h = let f = full-refused table s 0 b h in (f .cause, f .reads, f .numbers)
+    pub denies : {r : Refusal} → ReadsStatements table s p 0 l l′ (parsed.Refused r) → (c : Cause) × (reading table s ≡ refusal c) × (r ≡ numbersOf c)
+    unfolding reading
+    denies h = let f = all-refused table s 0 b h in (f .cause, f .reads, f .numbers)
 
 -- the first token is refused already
-pub not-begun : (table s : List ℕ) {r : Refusal} → NotStarted s 0 r → (c : Cause) × (fullRead table s ≡ refusal c) × (r ≡ numbersOf c)
-unfolding fullRead
-not-begun table s b = let f = full-not-started table s 0 b in (f .cause, f .reads, f .numbers)
+pub not-begun : (table s : List ℕ) {r : Refusal} → NotStarted s 0 r → (c : Cause) × (reading table s ≡ refusal c) × (r ≡ numbersOf c)
+unfolding reading
+not-begun table s b = let f = all-not-started table s 0 b in (f .cause, f .reads, f .numbers)
 
 -- What it makes of the answer and of the buffer.
 module _ (s l : List ℕ) where
-  pub is-denied : {r : Refusal} → (c : Cause) × (fullRead operations s ≡ refusal c) × (r ≡ numbersOf c) → FullRead s l l (Refused r)
+  pub is-denied : {r : Refusal} → (c : Cause) × (reading operations s ≡ refusal c) × (r ≡ numbersOf c) → ReadsAll s l l (Refused r)
   unfolding listed leaves
   is-denied (c, e, k) = record { answer = rw e (ap Refused k); buffer = rw e }
 
-  module _ (m : Small s) (short : length s ≤ 65536) {v : List Record} (e : fullRead operations s ≡ accepted v) where
+  module _ (m : Small s) (short : length s ≤ 65536) {v : List Record} (e : reading operations s ≡ accepted v) where
     -- within the limit
     pub little : length (listing v) ≤ limit
     little = omega (arith, bounded operations proper s v m e)
 
-    pub no-room-for : length l < length (listing v) → FullRead s l l (Refused (numbersOf (nowhere 4)))
+    pub no-room-for : length l < length (listing v) → ReadsAll s l l (Refused (numbersOf (nowhere 4)))
     unfolding listed leaves inRoom unless
     no-room-for h = record { answer = rw (e, lt-ltb (length l) (length (listing v)) h); buffer = rw (e, lt-ltb (length l) (length (listing v)) h) }
 
-    pub is-written : {l′ : List ℕ} → length (listing v) ≤ length l → l′ ≡ overwrite (listing v) l → FullRead s l l′ (Written (length (listing v)))
+    pub is-written : {l′ : List ℕ} → length (listing v) ≤ length l → l′ ≡ overwrite (listing v) l → ReadsAll s l l′ (Written (length (listing v)))
     unfolding listed leaves inRoom unless
     is-written h k = record { answer = rw (e, le-ltb (length l) (length (listing v)) h); buffer = rw (e, le-ltb (length l) (length (listing v)) h) k }
 
@@ -106,9 +106,9 @@ taken-over l b h = rw (stored-over l b h) (take-append-seam b (drop (length b) l
 
 -- a source whose first byte above 127 is behind its end has small bytes
 pub small : (s : List ℕ) → foreignPlace s ≡ length s → Small s
-small s e = none-foreign 0 s (never-foreign s (sym e))
+small s e = ascii-small s (none-foreign 0 s (never-foreign s (sym e)))
 
-written-as : {s l l′ : List ℕ} {n m : ℕ} → n ≡ m → FullRead s l l′ (Written m) → FullRead s l l′ (Written n)
+written-as : {s l l′ : List ℕ} {n m : ℕ} → n ≡ m → ReadsAll s l l′ (Written m) → ReadsAll s l l′ (Written n)
 written-as e f = rw e f
 
 taken : {n : ℕ} (l b : List ℕ) {l′ : List ℕ} → n ≡ length b → l′ ≡ stores l 0 b → length b ≤ length l → take n l′ ≡ b
@@ -129,17 +129,17 @@ module _ {s : List ℕ} {p : Parser} (short : length s ≤ 65536) (plain : forei
     size-is : n ≡ length (listing (first .v))
     size-is = first .wrote .place (omega (arith, little s [] (small s plain) short (first .reads))) ∙ zero-add (length (listing (first .v)))
 
-    pub no-room : {l : List ℕ} → length l < n → FullRead s l l (Refused (numbersOf (nowhere 4)))
+    pub no-room : {l : List ℕ} → length l < n → ReadsAll s l l (Refused (numbersOf (nowhere 4)))
     no-room {l} k = no-room-for s l (small s plain) short (first .reads) (rw size-is at k)
 
-    pub kept-copied : {l l′ : List ℕ} → n ≤ length l → n ≤ length kept′ → l′ ≡ overwrite (take n kept′) l → FullRead s l l′ (Written n)
+    pub kept-copied : {l l′ : List ℕ} → n ≤ length l → n ≤ length kept′ → l′ ≡ overwrite (take n kept′) l → ReadsAll s l l′ (Written n)
     kept-copied {l} {l′} i j e =
         let k : length (listing (first .v)) ≤ limit = little s [] (small s plain) short (first .reads) in
         let f : length (listing (first .v)) ≤ length kept = omega (arith, first .wrote .long, size-is) in
         let t : take n kept′ ≡ listing (first .v) = taken kept (listing (first .v)) size-is (first .wrote .wrote (omega arith) (omega arith)) f in
         written-as size-is (is-written s l (small s plain) short (first .reads) (omega (arith, size-is)) (e ∙ ap (λ (x : List ℕ). overwrite x l) t))
 
-    pub read-again : {l l′ : List ℕ} {q₂ : Parser} {n₂ : ℕ} → n ≤ length l → ReadsStatements operations s p 0 l l′ (parsed.Done q₂ n₂) → FullRead s l l′ (Written n)
+    pub read-again : {l l′ : List ℕ} {q₂ : Parser} {n₂ : ℕ} → n ≤ length l → ReadsStatements operations s p 0 l l′ (parsed.Done q₂ n₂) → ReadsAll s l l′ (Written n)
     read-again {l} {l′} i k =
         let a = accepts operations s p b k in
         let same : first .v ≡ a .v = accepted-same (sym (first .reads) ∙ a .reads) in
@@ -153,26 +153,26 @@ module _ {s : List ℕ} {p : Parser} (short : length s ≤ 65536) (plain : forei
 
 -- The whole call, from the full read of a source that is one to read.
 module _ (s l l′ : List ℕ) {r : FullAnswer} where
-  pub call-answer : lent s (listed (length l) (fullRead operations s)) ≡ listed (length l) (fullRead operations s) → FullRead s l l′ r → r ≡ fullAnswer (fullCall operations s (length l))
-  unfolding fullCall
+  pub call-answer : lent s (listed (length l) (reading operations s)) ≡ listed (length l) (reading operations s) → ReadsAll s l l′ r → r ≡ fullAnswer (fullRead operations s (length l))
+  unfolding fullRead
   call-answer e f = f .answer ∙ ap fullAnswer (sym e)
 
-  pub call-buffer : lent s (listed (length l) (fullRead operations s)) ≡ listed (length l) (fullRead operations s) → FullRead s l l′ r → l′ ≡ fullBuffer operations s l
-  unfolding fullBuffer fullCall
+  pub call-buffer : lent s (listed (length l) (reading operations s)) ≡ listed (length l) (reading operations s) → ReadsAll s l l′ r → l′ ≡ fullBuffer operations s l
+  unfolding fullBuffer fullRead
   call-buffer e f = f .buffer ∙ ap (λ (x : Result (List Record)). leaves listing x l) (sym e)
 
-module _ (s l : List ℕ) {r : Refusal} (d : (c : Cause) × (lent s (listed (length l) (fullRead operations s)) ≡ refuses c) × (r ≡ numbersOf c)) where
-  pub call-denied : Refused r ≡ fullAnswer (fullCall operations s (length l))
-  unfolding fullCall
+module _ (s l : List ℕ) {r : Refusal} (d : (c : Cause) × (lent s (listed (length l) (reading operations s)) ≡ refuses c) × (r ≡ numbersOf c)) where
+  pub call-denied : Refused r ≡ fullAnswer (fullRead operations s (length l))
+  unfolding fullRead
   call-denied = let (c, e, k) = d in rw e (ap Refused k)
 
   pub buffer-denied : l ≡ fullBuffer operations s l
-  unfolding fullBuffer fullCall leaves
+  unfolding fullBuffer fullRead leaves
   buffer-denied = let (c, e, k) = d in rw e
 
 -- What an accepted call has written.
 module _ (s l l′ : List ℕ) (m : Small s) (short : length s ≤ 65536) where
-  written-so : (o : Outcome) → fullRead operations s ≡ o → {r : FullAnswer} → r ≡ fullAnswer (listed (length l) o) → l′ ≡ leaves listing (listed (length l) o) l → WritesAs s l′ r
+  written-so : (o : Outcome) → reading operations s ≡ o → {r : FullAnswer} → r ≡ fullAnswer (listed (length l) o) → l′ ≡ leaves listing (listed (length l) o) l → WritesAs s l′ r
   unfolding listed inRoom unless leaves overwrite
   written-so (refusal c) e k h = rw k tt
   written-so (accepted v) e k h = go (ltb (length l) (length (listing v))) refl k h
@@ -184,5 +184,5 @@ module _ (s l l′ : List ℕ) (m : Small s) (short : length s ≤ 65536) where
           let n : length l′ ≡ length (listing v) + length (drop (length (listing v)) l) = ap length h ∙ length-append (listing v) (drop (length (listing v)) l) in
           rw k (omega arith, bounded operations proper s v m e, rw (f, listing-decodes operations proper s v m short e) (listing-formed operations proper s v m e))
 
-  pub is-well-written : {r : FullAnswer} → FullRead s l l′ r → Writes s l′ r
-  is-well-written f = record { so = written-so (fullRead operations s) refl (f .answer) (f .buffer) }
+  pub is-well-written : {r : FullAnswer} → ReadsAll s l l′ r → Writes s l′ r
+  is-well-written f = record { so = written-so (reading operations s) refl (f .answer) (f .buffer) }

@@ -12,7 +12,7 @@ use Rattle.lexer.specs.Tokens.{lengthOf}
 use Rattle.lexer.specs.declared.Token.{Token}
 use Rattle.names.specs.Table.{operations}
 use Rattle.rules.specs.Records.{Record, listing}
-use Rattle.rules.specs.Statements.{rows, fullRead}
+use Rattle.rules.specs.Statements.{rows, reading}
 use Rattle.rules.specs.Calls.{Result, gives, refuses, listed, leaves, Found, nothing, found, oneFound, oneRead, foundBytes}
 use Rattle.reader.specs.declared.TokenAnswer.{TokenAnswer}
 use Rattle.reader.specs.declared.TokenAnswer.the-variants as token
@@ -37,9 +37,9 @@ fullAnswer (gives w) = full.Written (length (listing w))
 fullAnswer (refuses c) = full.Refused (numbersOf c)
 
 -- What a source that is one to read gives: the answer, and what the buffer holds afterwards.
-pub record FullRead (s l l′ : List ℕ) (r : FullAnswer) : Type 0 where
-  pub answer : r ≡ fullAnswer (listed (length l) (fullRead operations s))
-  pub buffer : l′ ≡ leaves listing (listed (length l) (fullRead operations s)) l
+pub record ReadsAll (s l l′ : List ℕ) (r : FullAnswer) : Type 0 where
+  pub answer : r ≡ fullAnswer (listed (length l) (reading operations s))
+  pub buffer : l′ ≡ leaves listing (listed (length l) (reading operations s)) l
 
 pub record OneRead (s : List ℕ) (p : ℕ) (l l′ : List ℕ) (r : StatementAnswer) : Type 0 where
   pub answer : r ≡ statementAnswer (oneFound (length l) (oneRead operations (rows (tokensFrom p 0 (drop p s)))))

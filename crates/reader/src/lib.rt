@@ -21,10 +21,10 @@ ghost use lib.ListN.{take, drop};
 ghost use Rattle.names.specs.Table.{operations};
 ghost use Rattle.rules.specs.Records.{listing};
 ghost use Rattle.rules.specs.Calls as rules;
-ghost use Rattle.rules.specs.Statements.{fullRead};
+ghost use Rattle.rules.specs.Statements.{reading};
 ghost use Rattle.reader.specs.Lent.{isAscii, foreignPlace, lentOf, lentAtOf};
 ghost use Rattle.parser.specs.Statements.{Started};
-ghost use Rattle.reader.specs.Calls.{FullRead, OneRead, Writes, tokenAnswer, fullAnswer, statementAnswer};
+ghost use Rattle.reader.specs.Calls.{ReadsAll, OneRead, Writes, tokenAnswer, fullAnswer, statementAnswer};
 ghost use Rattle.lexer.specs.Tokens.{faultNumber};
 
 // The token and the state behind it.
@@ -131,7 +131,7 @@ fn keep_and_copy(
     p: Parser,
 ) -> FullAnswer
     requires { ⌜ (length (now source) ≤ 65536) × (foreignPlace (now source) ≡ length (now source)) × (now table ≡ operations) × Started (now source) 0 p ⌝ }
-    ensures { λ r. ⌜ FullRead (now (source .entry)) (now (out .entry)) (now (out .exit)) r ⌝ }
+    ensures { λ r. ⌜ ReadsAll (now (source .entry)) (now (out .entry)) (now (out .exit)) r ⌝ }
 {
     match statements(source, table, kept, 0, p) {
         Parsed::Refused(r) => FullAnswer::Refused(r),
@@ -155,7 +155,7 @@ fn keep_and_copy(
 // They are kept in a local buffer of four times the source or more, which most listings fit; a larger one would cost more to clear.
 fn all_statements(source: &[u8], table: &[u8; 936], out: &mut [u8], p: Parser) -> FullAnswer
     requires { ⌜ (length (now source) ≤ 65536) × (foreignPlace (now source) ≡ length (now source)) × (now table ≡ operations) × Started (now source) 0 p ⌝ }
-    ensures { λ r. ⌜ FullRead (now (source .entry)) (now (out .entry)) (now (out .exit)) r ⌝ }
+    ensures { λ r. ⌜ ReadsAll (now (source .entry)) (now (out .entry)) (now (out .exit)) r ⌝ }
 {
     if source.len() <= 1024 {
         let mut kept = [0u8; 4096];
@@ -176,7 +176,7 @@ fn all_statements(source: &[u8], table: &[u8; 936], out: &mut [u8], p: Parser) -
 // The full read of a source that is one to read.
 fn read_all(source: &[u8], out: &mut [u8]) -> FullAnswer
     requires { ⌜ (length (now source) ≤ 65536) × (foreignPlace (now source) ≡ length (now source)) ⌝ }
-    ensures { λ r. ⌜ FullRead (now (source .entry)) (now (out .entry)) (now (out .exit)) r ⌝ }
+    ensures { λ r. ⌜ ReadsAll (now (source .entry)) (now (out .entry)) (now (out .exit)) r ⌝ }
 {
     match start(source, 0) {
         Step::Stopped(r) => FullAnswer::Refused(r),
@@ -189,7 +189,7 @@ fn read_all(source: &[u8], out: &mut [u8]) -> FullAnswer
 
 // All statements of a source: their records in `out`, if there is room for all of them.
 pub fn full_read(source: &[u8], out: &mut [u8]) -> FullAnswer
-    ensures answer { λ r. ⌜ r ≡ fullAnswer (rules.fullCall operations (now (source .entry)) (length (now (out .entry)))) ⌝ }
+    ensures answer { λ r. ⌜ r ≡ fullAnswer (rules.fullRead operations (now (source .entry)) (length (now (out .entry)))) ⌝ }
     ensures buffer { λ _. ⌜ now (out .exit) ≡ rules.fullBuffer operations (now (source .entry)) (now (out .entry)) ⌝ }
     ensures written { λ r. ⌜ Writes (now (source .entry)) (now (out .exit)) r ⌝ }
 {

@@ -7,7 +7,7 @@ use native.Mathlib.Omega.{arith}
 use native.Mathlib.Nat.{add-zero, add-suc, suc-add, le-refl, le-trans}
 use native.Mathlib.Numerals.{add-one}
 use lib.ListN.{length, length-append, set, take, drop}
-use lib.Seq.{sets, sets-eq, length-sets, set-comm}
+use lib.Seq.{sets, sets-eq, length-sets, set-comm, take-set-le, take-take}
 use Rattle.records.specs.Writes.{stores, limit, Wrote}
 
 sets-append : (l : List ℕ) (i : ℕ) (a b : List ℕ) → sets l i (a ++ b) ≡ sets (sets l i a) (i + length a) b
@@ -18,6 +18,18 @@ pub stores-length : (l : List ℕ) (at : ℕ) (bs : List ℕ) → length (stores
 unfolding stores
 stores-length l at bs = length-sets l at bs
 
+-- what stands below is left as it was
+pub stores-below : (l : List ℕ) (at : ℕ) (bs : List ℕ) → take at (stores l at bs) ≡ take at l
+unfolding stores
+stores-below l at bs = go l at bs (le-refl at)
+  where
+    go : (l : List ℕ) (i : ℕ) (bs : List ℕ) → at ≤ i → take at (sets l i bs) ≡ take at l
+    go l i [] h = refl
+    go l i (b ∷ bs) h = go (set l i b) (suc i) bs (omega arith) ∙ take-set-le at l i b h
+
+take-less : (n m : ℕ) (a b : List ℕ) → n ≤ m → take m a ≡ take m b → take n a ≡ take n b
+take-less n m a b h e = sym (take-take n m a h) ∙ ap (take n) e ∙ take-take n m b h
+
 -- where there is room, the bytes, and what stood before and behind
 pub stores-room : (l : List ℕ) (at : ℕ) (bs : List ℕ) → at + length bs ≤ length l → stores l at bs ≡ take at l ++ bs ++ drop (at + length bs) l
 unfolding stores
@@ -25,24 +37,25 @@ stores-room l at bs h = sets-eq bs l at h
 
 -- a run that has room; one that has none; one that would pass the limit
 pub has-room : {at r : ℕ} {bs l l′ : List ℕ} → l′ ≡ stores l at bs → r ≡ at + length bs → Wrote at bs l l′ r
-has-room {at} {bs = bs} {l} e k = record { long = ap length e ∙ stores-length l at bs; grows = omega arith; place = λ _. k; wrote = λ _ _. e }
+has-room {at} {bs = bs} {l} e k = record { long = ap length e ∙ stores-length l at bs; below = ap (take at) e ∙ stores-below l at bs; grows = omega arith; place = λ _. k; wrote = λ _ _. e }
 
 pub no-room : {at r : ℕ} {bs l : List ℕ} → length l < at + length bs → r ≡ at + length bs → Wrote at bs l l r
-no-room h k = record { long = refl; grows = omega arith; place = λ _. k; wrote = λ _ f. absurd (omega arith) }
+no-room h k = record { long = refl; below = refl; grows = omega arith; place = λ _. k; wrote = λ _ f. absurd (omega arith) }
 
 pub beyond : {at : ℕ} {bs l : List ℕ} → limit < at + length bs → Wrote at bs l l at
-beyond {at} h = record { long = refl; grows = le-refl at; place = λ f. absurd (omega arith); wrote = λ f _. absurd (omega arith) }
+beyond {at} h = record { long = refl; below = refl; grows = le-refl at; place = λ f. absurd (omega arith); wrote = λ f _. absurd (omega arith) }
 
 -- nothing written
 pub nothing : (at : ℕ) (l : List ℕ) → Wrote at [] l l at
 unfolding stores
-nothing at l = record { long = refl; grows = le-refl at; place = λ _. sym (add-zero at); wrote = λ _ _. refl }
+nothing at l = record { long = refl; below = refl; grows = le-refl at; place = λ _. sym (add-zero at); wrote = λ _ _. refl }
 
 -- a run written behind another
 pub follows : {at w r : ℕ} (a b : List ℕ) {l l₁ l₂ : List ℕ} → Wrote at a l l₁ w → Wrote w b l₁ l₂ r → Wrote at (a ++ b) l l₂ r
 unfolding stores
 follows {at} {w} {r} a b {l} {l₁} {l₂} x y = record {
   long = y .long ∙ x .long;
+  below = take-less at w l₂ l₁ (x .grows) (y .below) ∙ x .below;
   grows = le-trans (x .grows) (y .grows);
   place = λ h.
       let k : length (a ++ b) ≡ length a + length b = length-append a b in
@@ -74,6 +87,7 @@ pub headed : {at first w r k : ℕ} (head : ℕ → List ℕ) (b : List ℕ) {l 
     → Wrote first b l l₁ w → Wrote at (head (w - first)) l₁ l₂ r → Wrote at (head (length b) ++ b) l l₂ w
 headed {at} {first} {w} {r} {k} head b {l} {l₁} {l₂} long h f x y = record {
   long = y .long ∙ x .long;
+  below = y .below ∙ take-less at first l₁ l h (x .below);
   grows = le-trans h (x .grows);
   place = λ i.
       let n : length (head (length b) ++ b) ≡ length (head (length b)) + length b = length-append (head (length b)) b in

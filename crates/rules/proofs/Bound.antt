@@ -19,7 +19,7 @@ use Rattle.rules.specs.Lexemes.{kindOf, Lexeme, isGap, lexeme, put, toke
 use Rattle.rules.specs.Records.{Record, listing}
 use Rattle.rules.specs.Reader.{Refusal, at, Answer, done, refused, after, arrive, refusedAs}
 use Rattle.rules.specs.Operands.{isWord, isNumber}
-use Rattle.rules.specs.Statements.{Row, State, rows, firstOf, enter, statement, accepted, readFrom, fullRead}
+use Rattle.rules.specs.Statements.{Row, State, rows, firstOf, enter, statement, accepted, readFrom, reading}
 use Rattle.rules.specs.Calls.{oneRead}
 use Rattle.rules.proofs.Table.{Proper}
 use Rattle.rules.proofs.Append.{Reads, Begins, fine, broken}
@@ -207,6 +207,6 @@ module _ (table : List ℕ) (proper : Proper table) where
         let b : 0 + weight w ≤ 18 * (p + length s) = one-bound (p + length s) (p + length s) (rows (tokensFrom p 0 s)) e c d in
         omega arith
 
-  pub bounded : (s : List ℕ) (w : List Record) → Small s → fullRead table s ≡ accepted w → length (listing w) ≤ 18 * length s
-  unfolding fullRead
+  pub bounded : (s : List ℕ) (w : List Record) → Small s → reading table s ≡ accepted w → length (listing w) ≤ 18 * length s
+  unfolding reading
   bounded s w m e = omega (arith, bounded-from 0 s m w e)

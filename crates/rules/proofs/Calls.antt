@@ -1,18 +1,18 @@
--- What accepted calls say of what was lent: the source is short and its bytes are small, and the records are those of the reading.
+-- What accepted calls say of what was lent: the source is short and its bytes are ASCII, and the records are those of the reading.
 use mathlib.Core.Path.{_≡_, refl}
 use mathlib.Core.Bool.{Bool, true, false, true≢false}
-use mathlib.Core.List.{List, [], _∷_}
+use mathlib.Core.List.{List, [], _∷_, _++_}
 use mathlib.Core.Option.{Option, none, some}
 use Prim.Native.Nat.{ℕ, suc, _≤_}
 use native.Mathlib.Omega.{arith}
 use lib.Dec.{ltb}
 use lib.ListN.{length}
-use borrow.Author.Tests.{ltb-false}
+use borrow.Author.Tests.{le-ltb, ltb-false}
 use Rattle.lexer.specs.Text.{if_then_else_, maybe}
 use Rattle.rules.specs.Records.{Record, listing}
 use Rattle.rules.specs.Reader.{Refusal, at, nowhere}
-use Rattle.rules.specs.Statements.{Outcome, accepted, refusal, fullRead}
-use Rattle.rules.specs.Calls.{Result, gives, refuses, unless, mostBytes, tooLong, foreign, ascii, lent, lentAt, inRoom, listed, fullCall}
+use Rattle.rules.specs.Statements.{Outcome, accepted, refusal, reading}
+use Rattle.rules.specs.Calls.{Result, gives, refuses, unless, mostBytes, tooLong, foreign, ascii, lent, lentAt, inRoom, listed, fullRead}
 use Rattle.rules.proofs.Shape.{Small}
 
 pub unless-gives : {A : Type 0} (b : Bool) (r : Refusal) (x : Result A) (y : A) → unless b r x ≡ gives y → (b ≡ false) × (x ≡ gives y)
@@ -20,25 +20,56 @@ unfolding unless
 unless-gives true r x y h = absurd (true≢false cc)
 unless-gives false r x y h = (refl, h)
 
-pub none-foreign : (p : ℕ) (s : List ℕ) → foreign p s ≡ none → Small s
+-- No byte is above 127.
+abbrev pub Ascii : List ℕ → Type 0
+Ascii [] = Unit {0}
+Ascii (c ∷ cs) = (c ≤ 127) × Ascii cs
+
+pub none-foreign : (p : ℕ) (s : List ℕ) → foreign p s ≡ none → Ascii s
 unfolding foreign
 none-foreign p [] h = tt
 none-foreign p (c ∷ cs) h = go (ltb 127 c) refl h (λ e. none-foreign (suc p) cs e)
   where
-    go : (b : Bool) → ltb 127 c ≡ b → _≡_ {A = Option ℕ} (if b then (some p) else (foreign (suc p) cs)) none → (foreign (suc p) cs ≡ none → Small cs) → (c ≤ 2147483647) × Small cs
+    go : (b : Bool) → ltb 127 c ≡ b → _≡_ {A = Option ℕ} (if b then (some p) else (foreign (suc p) cs)) none → (foreign (suc p) cs ≡ none → Ascii cs) → (c ≤ 127) × Ascii cs
     go true e i again = absurd (true≢false cc)
-    go false e i again = (omega (arith, ltb-false 127 c e), again i)
+    go false e i again = (ltb-false 127 c e, again i)
 
-ascii-gives : {A : Type 0} (s : List ℕ) (x : Result A) (y : A) → ascii s x ≡ gives y → Small s × (x ≡ gives y)
+foreign-none : (p : ℕ) (s : List ℕ) → Ascii s → foreign p s ≡ none
+unfolding foreign
+foreign-none p [] h = refl
+foreign-none p (c ∷ cs) h = rw (le-ltb 127 c (h .0)) (foreign-none (suc p) cs (h .1))
+
+pub ascii-small : (s : List ℕ) → Ascii s → Small s
+ascii-small [] h = tt
+ascii-small (c ∷ cs) h = (omega (arith, h .0), ascii-small cs (h .1))
+
+pub ascii-split : (a b : List ℕ) → Ascii (a ++ b) → Ascii a × Ascii b
+ascii-split [] b h = (tt, h)
+ascii-split (c ∷ cs) b h = let (i, j) = ascii-split cs b (h .1) in ((h .0, i), j)
+
+pub ascii-append : (a b : List ℕ) → Ascii a → Ascii b → Ascii (a ++ b)
+ascii-append [] b h i = i
+ascii-append (c ∷ cs) b h i = (h .0, ascii-append cs b (h .1) i)
+
+-- A source that 1 and 2 let pass.
+pub record Readable (s : List ℕ) : Type 0 where
+  pub short : length s ≤ 65536
+  pub plain : Ascii s
+
+pub readable-lent : {A : Type 0} (s : List ℕ) (x : Result A) → Readable s → lent s x ≡ x
+unfolding lent tooLong mostBytes unless ascii
+readable-lent s x r = rw (le-ltb 65536 (length s) (r .short), foreign-none 0 s (r .plain))
+
+ascii-gives : {A : Type 0} (s : List ℕ) (x : Result A) (y : A) → ascii s x ≡ gives y → Ascii s × (x ≡ gives y)
 unfolding ascii
 ascii-gives s x y h = go (foreign 0 s) refl h
   where
-    go : (o : Option ℕ) → foreign 0 s ≡ o → maybe o x (λ p. refuses (at 2 p (suc p))) ≡ gives y → Small s × (x ≡ gives y)
+    go : (o : Option ℕ) → foreign 0 s ≡ o → maybe o x (λ p. refuses (at 2 p (suc p))) ≡ gives y → Ascii s × (x ≡ gives y)
     go none e′ e = (none-foreign 0 s e′, e)
     go (some p) e′ e = absurd (true≢false cc)
 
 pub record Lent (A : Type 0) (s : List ℕ) (x : Result A) (y : A) : Type 0 where
-  pub short : length s ≤ 65536
+  pub readable : Readable s
   pub small : Small s
   pub given : x ≡ gives y
 
@@ -47,7 +78,7 @@ unfolding lent tooLong mostBytes
 lent-gives s x y h =
     let (i, j) = unless-gives (ltb 65536 (length s)) (nowhere 1) (ascii s x) y h in
     let (m, e) = ascii-gives s x y j in
-    record { short = ltb-false 65536 (length s) i; small = m; given = e }
+    record { readable = record { short = ltb-false 65536 (length s) i; plain = m }; small = ascii-small s m; given = e }
 
 pub lentAt-gives : {A : Type 0} (s : List ℕ) (p : ℕ) (x : Result A) (y : A) → lentAt s p x ≡ gives y → (p ≤ length s) × Lent A s x y
 unfolding lentAt
@@ -68,12 +99,13 @@ listed-gives room (refusal r) w h = absurd (true≢false cc)
 
 -- What an accepted full read says.
 pub record Accepted (table s : List ℕ) (w : List Record) : Type 0 where
+  pub readable : Readable s
   pub short : length s ≤ 65536
   pub small : Small s
-  pub reads : fullRead table s ≡ accepted w
+  pub reads : reading table s ≡ accepted w
 
-pub accepted-call : (table s : List ℕ) (room : ℕ) (w : List Record) → fullCall table s room ≡ gives w → Accepted table s w
-unfolding fullCall
+pub accepted-call : (table s : List ℕ) (room : ℕ) (w : List Record) → fullRead table s room ≡ gives w → Accepted table s w
+unfolding fullRead
 accepted-call table s room w h =
-    let l : Lent (List Record) s (listed room (fullRead table s)) w = lent-gives s (listed room (fullRead table s)) w h in
-    record { short = l .short; small = l .small; reads = listed-gives room (fullRead table s) w (l .given) }
+    let l : Lent (List Record) s (listed room (reading table s)) w = lent-gives s (listed room (reading table s)) w h in
+    record { readable = l .readable; short = l .readable .short; small = l .small; reads = listed-gives room (reading table s) w (l .given) }

@@ -8,21 +8,22 @@ use native.Mathlib.Omega.{arith}
 use lib.Dec.{eqb, leb, ltb}
 use lib.ListN.{length, take, drop, getD, length-append, take-append-drop}
 use lib.Seq.{length-take-le}
-use borrow.Author.Tests.{ne-eqb, le-ltb, eqb-true, leb-true}
+use borrow.Author.Tests.{ne-eqb, le-ltb, ltb-false, eqb-true, leb-true}
 use Rattle.lexer.specs.Text.{if_then_else_, maybe, is, among, run}
 use Rattle.lexer.specs.Tokens.{inComment}
 use Rattle.rules.specs.Records.{Record, listing}
-use Rattle.rules.specs.Reader.{Refusal, at, nowhere, encoding, Answer, done, refused}
-use Rattle.rules.specs.Statements.{State, Outcome, accepted, refusal, outcome, readFrom, fullRead}
+use Rattle.rules.specs.Reader.{Refusal, at, nowhere, done}
+use Rattle.rules.specs.Statements.{State, Outcome, accepted, refusal, outcome, readFrom, reading}
 use Rattle.lexer.proofs.Branches.{and-split}
 use Rattle.lexer.proofs.TokensLine.{Lines}
-use Rattle.rules.specs.Calls.{Result, gives, refuses, unless, mostBytes, tooLong, foreign, ascii, lent, inRoom, listed, fullCall}
+use Rattle.rules.specs.Calls.{Result, gives, refuses, unless, mostBytes, tooLong, foreign, ascii, lent, inRoom, listed, fullRead}
 use Rattle.rules.specs.Decode.{decode}
-use Rattle.rules.specs.Patch.{beginsLine, above, lineAt, behind, edited, linesFrom, nearest, lacksContent, isOpen, leavesOpen, openLine, statementFrom, recordsBelow, recordsOn, Edit, exchanged, placedIn, reread, patched, patch}
+use Rattle.rules.specs.Patch.{beginsLine, above, lineAt, behind, edited, linesFrom, nearest, leavesOpen, openLine, statementFrom, recordsBelow, recordsOn, Edit, exchanged, placedIn, reread, patched, patch}
 use Rattle.rules.proofs.Shape.{Small, small-split, small-append, small-parts}
-use Rattle.rules.proofs.Calls.{Accepted, accepted-call}
+use Rattle.rules.proofs.Calls.{none-foreign, ascii-small, ascii-split, Readable, Accepted, accepted-call}
+use Rattle.rules.proofs.Alone.{not-open, closed, nearest-readable}
 use Rattle.rules.proofs.Table.{Proper}
-use Rattle.rules.proofs.Cut.{IsOpen, Gives, lineFeed, from-run, accepts-run, refuses-run, gives as given}
+use Rattle.rules.proofs.Cut.{Gives, lineFeed, from-run, accepts-run, refuses-run, gives as given}
 use Rattle.rules.proofs.Listing.{Inner, Headed, inner-append, from-mono, gives-fits, gives-feed, listing-formed, listing-decodes}
 use Rattle.rules.proofs.Exchange.{whole, Near, near-open, Behind, nothing, feed, Exchange, Closed, exchange, gives-same}
 
@@ -63,12 +64,13 @@ module _ (a b : ℕ) (h : a ≤ b) where
 small-same : {s t : List ℕ} → s ≡ t → Small s → Small t
 small-same e h = rw e at h
 
-open-outcome : (a : Answer State (Unit {0})) → IsOpen a → isOpen (outcome a) ≡ true
-unfolding isOpen outcome lacksContent
-open-outcome (done w x u) h = absurd h
-open-outcome (refused (at n f t)) h = h
-open-outcome (refused (nowhere n)) h = absurd h
-open-outcome (refused (encoding f t a b)) h = absurd h
+readable-same : {s t : List ℕ} → s ≡ t → Readable s → Readable t
+readable-same e h = rw e at h
+
+readable-split : (a b : List ℕ) → Readable (a ++ b) → Readable a × Readable b
+readable-split a b r = let (i, j) = ascii-split a b (r .plain) in
+    let n : length (a ++ b) ≤ 65536 = r .short in
+    (record { short = omega (arith, length-append a b); plain = i }, record { short = omega (arith, length-append a b); plain = j })
 
 -- The parts of a source at a line.
 split-line : (s : List ℕ) (a : ℕ) → s ≡ above s a ++ (lineAt s a ++ behind s a)
@@ -140,13 +142,13 @@ unfolding unless edits
 edits-unless s true r x = refl
 edits-unless s false r x = refl
 
-edits-ascii : (s t : List ℕ) (x : Result (List Record)) → edits s (ascii t x) ≡ ascii t (edits s x)
-unfolding ascii edits
-edits-ascii s t x = go (foreign 0 t)
-  where
-    go : (o : Option ℕ) → edits s (maybe o x (λ p. refuses (at 2 p (suc p)))) ≡ maybe o (edits s x) (λ p. refuses (at 2 p (suc p)))
-    go none = refl
-    go (some p) = refl
+-- 1 and 2 of the edited source come before all that looks at its lines.
+readable-only : (ed : List ℕ) (b : Bool) → ltb 65536 (length ed) ≡ b → (c : Option ℕ) → foreign 0 ed ≡ c → (x : Result Edit) (y : Result (List Record)) → (Readable ed → x ≡ edits ed y)
+    → unless b (nowhere 1) (maybe c x (λ p. refuses (at 2 p (suc p)))) ≡ edits ed (unless b (nowhere 1) (maybe c y (λ p. refuses (at 2 p (suc p)))))
+unfolding unless edits
+readable-only ed true e c g x y k = refl
+readable-only ed false e none g x y k = k (record { short = ltb-false 65536 (length ed) e; plain = none-foreign 0 ed g })
+readable-only ed false e (some p) g x y k = refl
 
 reread-is : (s : List ℕ) (w : List Record) (a : ℕ) (new : List ℕ) (roomS roomL : ℕ) → length (edited s a new) ≤ roomS → (o : Outcome)
     → reread s w a new roomS roomL o ≡ edits (edited s a new) (listed roomL (exchangedBy a (length (lineAt s a)) (length new) w o))
@@ -156,17 +158,13 @@ reread-is s w a new roomS roomL h (accepted v) = rw (le-ltb roomS (length (edite
 reread-is s w a new roomS roomL h (refusal r) = refl
 
 module _ (table : List ℕ) (proper : Proper table) where
-  closed : (l : List ℕ) → leavesOpen table l ≡ false → Closed table 0 l
-  unfolding Closed leavesOpen fullRead
-  closed l h a g o = true≢false (sym (ap isOpen (from-run table 0 l g) ∙ open-outcome a o) ∙ h)
-
   -- A's reading lacks no content where the nearest line does not
-  closed-above : (A : List ℕ) → Lines A → maybe (nearest (linesFrom [] A)) false (leavesOpen table) ≡ false → Closed table 0 A
-  unfolding Closed leavesOpen fullRead
-  closed-above A l h a g o =
+  closed-above : (A : List ℕ) → Readable A → Lines A → maybe (nearest (linesFrom [] A)) false (leavesOpen table) ≡ false → Closed table 0 A
+  unfolding Closed
+  closed-above A r l h a g o =
       let m : Near table (linesFrom [] A) = near-open table 0 (linesFrom [] A) (gives-same table 0 (sym (whole-lines A l)) g) o in
-      let i : isOpen (readFrom table 0 (m .M)) ≡ false = rw (m .found) at h in
-      true≢false (sym (ap isOpen (from-run table 0 (m .M) (given table 0 (m .M))) ∙ open-outcome _ (m .opens _ (given table 0 (m .M)))) ∙ i)
+      let i : leavesOpen table (m .M) ≡ false = rw (m .found) at h in
+      not-open table (m .M) (nearest-readable A (m .M) r (m .found)) i _ (given table 0 (m .M)) (m .opens _ (given table 0 (m .M)))
 
   module _ where
     dropped-inner : (n : ℕ) (L B : List ℕ) → Behind B → (w : List Record) (u : State) → Small L → Gives table n (L ++ take 1 B) (done w tt u) → Inner (n + length L) w
@@ -208,32 +206,36 @@ module _ (table : List ℕ) (proper : Proper table) where
         let (mL, mB) = small-split L B q in
         rw e (alike A L N B b w mA mL mB (exchange table 0 A L N l cA cL cN b g) (readFrom table (0 + length A) (N ++ take 1 B)) refl)
 
-    reads-alike : (old : List ℕ) (a : ℕ) (new : List ℕ) (w : List Record) → beginsLine old a ≡ true → openLine table old a new ≡ false → Small old → fullRead table old ≡ accepted w
-        → fullRead table (edited old a new) ≡ exchangedBy a (length (lineAt old a)) (length new) w (readFrom table a (new ++ take 1 (behind old a)))
-    unfolding fullRead openLine edited above behind
-    reads-alike old a new w h o sm e =
+    reads-alike : (old : List ℕ) (a : ℕ) (new : List ℕ) (w : List Record) → beginsLine old a ≡ true → openLine table old a new ≡ false → Readable old → Readable (edited old a new) → reading table old ≡ accepted w
+        → reading table (edited old a new) ≡ exchangedBy a (length (lineAt old a)) (length new) w (readFrom table a (new ++ take 1 (behind old a)))
+    unfolding reading openLine edited above behind
+    reads-alike old a new w h o p q e =
         let at′ : Line-at old a = line-at old a h in
+        let (pA, pB) = readable-split (take a old) (lineAt old a ++ behind old a) (readable-same (split-line old a) p) in
+        let (pL, pC) = readable-split (lineAt old a) (behind old a) pB in
+        let (qA, qB) = readable-split (take a old) (new ++ behind old a) q in
+        let (qN, qC) = readable-split new (behind old a) qB in
         let (i, j) = or-split (leavesOpen table (lineAt old a)) (leavesOpen table new || maybe (nearest (linesFrom [] (take a old))) false (leavesOpen table)) o in
         let (k, m) = or-split (leavesOpen table new) (maybe (nearest (linesFrom [] (take a old))) false (leavesOpen table)) j in
         let (u, g) = accepts-run table 0 old w e in
-        joined-alike (take a old) (lineAt old a) new (behind old a) (at′ .lines) (run-behind (drop a old)) (closed-above (take a old) (at′ .lines) m) (closed (lineAt old a) i) (closed new k)
-        w u (small-same (split-line old a) sm) (gives-same table 0 (split-line old a) g) a (omega (arith, length-take-le a old (at′ .fits)))
+        joined-alike (take a old) (lineAt old a) new (behind old a) (at′ .lines) (run-behind (drop a old)) (closed-above (take a old) pA (at′ .lines) m) (closed table (lineAt old a) pL i) (closed table new qN k)
+        w u (small-same (split-line old a) (ascii-small old (p .plain))) (gives-same table 0 (split-line old a) g) a (omega (arith, length-take-le a old (at′ .fits)))
 
-  patched-is : (old : List ℕ) (w : List Record) (a : ℕ) (new : List ℕ) (roomS roomL : ℕ) → beginsLine old a ≡ true → openLine table old a new ≡ false → Small old → fullRead table old ≡ accepted w → length (edited old a new) ≤ roomS
-      → patched table old (some w) a new roomS roomL ≡ edits (edited old a new) (listed roomL (fullRead table (edited old a new)))
+  patched-is : (old : List ℕ) (w : List Record) (a : ℕ) (new : List ℕ) (roomS roomL : ℕ) → beginsLine old a ≡ true → openLine table old a new ≡ false → Readable old → Readable (edited old a new) → reading table old ≡ accepted w
+      → length (edited old a new) ≤ roomS → patched table old (some w) a new roomS roomL ≡ edits (edited old a new) (listed roomL (reading table (edited old a new)))
   unfolding patched unless
-  patched-is old w a new roomS roomL h o sm e r = rw (listing-formed table proper old w sm e, o, reads-alike old a new w h o sm e) (reread-is old w a new roomS roomL r (readFrom table a (new ++ take 1 (behind old a))))
+  patched-is old w a new roomS roomL h o p q e r = rw (listing-formed table proper old w (ascii-small old (p .plain)) e, o, reads-alike old a new w h o p q e)
+      (reread-is old w a new roomS roomL r (readFrom table a (new ++ take 1 (behind old a))))
 
   -- DEMAND 3: for an accepted source with its listing, and a line that leaves no `times` open, the patch answers what the full read of the
-  -- edited source answers, lent the same listing buffer.
+  -- edited source answers, lent the same listing buffer. Where the edited source may not be read (1, 2), both say so before they look at a line.
   pub demand-3 : (old : List ℕ) (w : List Record) (a : ℕ) (new : List ℕ) (room roomS roomL : ℕ)
-      → fullCall table old room ≡ gives w → beginsLine old a ≡ true → among 10 new ≡ false → openLine table old a new ≡ false → length (edited old a new) ≤ roomS
-      → patch table old (listing w) a new roomS roomL ≡ edits (edited old a new) (fullCall table (edited old a new) roomL)
-  unfolding patch fullCall lent unless tooLong mostBytes
+      → fullRead table old room ≡ gives w → beginsLine old a ≡ true → among 10 new ≡ false → openLine table old a new ≡ false → length (edited old a new) ≤ roomS
+      → patch table old (listing w) a new roomS roomL ≡ edits (edited old a new) (fullRead table (edited old a new) roomL)
+  unfolding patch fullRead lent ascii unless tooLong mostBytes
   demand-3 old w a new room roomS roomL acc h f o r =
       let A : Accepted table old w = accepted-call table old room w acc in
       let d : decode (listing w) ≡ some w = listing-decodes table proper old w (A .small) (A .short) (A .reads) in
       let i : ltb 65536 (length old) ≡ false = le-ltb 65536 (length old) (A .short) in
       let ed : List ℕ = edited old a new in
-      rw (h, f, i, d, patched-is old w a new roomS roomL h o (A .small) (A .reads) r)
-      (sym (edits-unless ed (ltb 65536 (length ed)) (nowhere 1) (ascii ed (listed roomL (fullRead table ed))) ∙ ap (unless (ltb 65536 (length ed)) (nowhere 1)) (edits-ascii ed ed (listed roomL (fullRead table ed)))))
+      rw (h, f, i, d) (readable-only ed (ltb 65536 (length ed)) refl (foreign 0 ed) refl _ _ (λ q. patched-is old w a new roomS roomL h o (A .readable) q (A .reads) r))

@@ -1,14 +1,15 @@
 -- Samples of the patch and of the statement read, computed: what document 01 says of each refusal's order, and small edits.
 use mathlib.Core.Path.{_≡_, refl}
-use mathlib.Core.List.{List, [], _∷_}
-use Prim.Native.Nat.{ℕ}
+use mathlib.Core.Bool.{true, false}
+use mathlib.Core.List.{List, [], _∷_, _++_}
+use Prim.Native.Nat.{ℕ, zero, suc}
 use Prim.Native.String.{String}
 use Rattle.lexer.specs.Text.{bytes}
 use Rattle.names.specs.Table.{operations, spellings, row, rowsOf}
 use Rattle.rules.specs.Records.{Record, ST, VC, LL, LI, LC, LT, listing}
 use Rattle.rules.specs.Reader.{at, nowhere}
 use Rattle.rules.specs.Calls.{Result, gives, refuses, Found, nothing, found, statementCall}
-use Rattle.rules.specs.Patch.{Edit, patch, openPatch}
+use Rattle.rules.specs.Patch.{Edit, leavesOpen, patch, openPatch}
 
 -- A patch of a source with its listing's records, at a place, with a new text, and with two buffers of one length.
 pub record Case : Type 0 where
@@ -40,6 +41,10 @@ cases =
     ∷ case ";times 2\nb" (ST 9 ∷ LL 9 10 ∷ []) 9 "c" 1000 (become ";times 2\nc" (ST 9 ∷ LL 9 10 ∷ []))
     ∷ case "b" (ST 0 ∷ LL 0 1 ∷ []) 0 "times 1 times 1 times 1 times 1 times 1 times 1 times 1 times 1 times 1 times 1 times 1 times 1 times 1 times 1 times 1 times 1" 1000 (refuses (nowhere 40))
     ∷ case "b" (ST 0 ∷ LL 0 1 ∷ []) 0 "times 1 times 1 times 1 times 1 times 1 times 1 times 1 times 1 times 1 times 1 times 1 times 1 times 1 times 1 times 1 times 1 times 1" 1000 (refuses (at 5 128 133))
+    -- A line is read alone by the full read, which refuses it with 2 before it looks for a content: it leaves no `times` open. 2 itself is
+    -- about the edited source.
+    ∷ case "times 2;\u{80}" [] 0 "" 1000 (become "" [])
+    ∷ case "nop" (ST 0 ∷ LI 0 3 97 0 3 3 ∷ []) 0 "times 1;\u{80}" 1000 (refuses (at 2 8 9))
     -- the other refusals, in order
     ∷ case "ab" [] 1 "c" 1000 (refuses (nowhere 42))
     ∷ case "ab\n" [] 3 "c\nd" 1000 (refuses (nowhere 43))
@@ -56,7 +61,21 @@ Patches (c ∷ cs) = (patch operations (bytes (c .old)) (listing (c .records)) (
 
 pub patches : Patches cases
 unfolding openPatch spellings row rowsOf operations case become cases Patches
-patches = (refl, (refl, (refl, (refl, (refl, (refl, (refl, (refl, (refl, (refl, (refl, (refl, (refl, (refl, (refl, tt)))))))))))))))
+patches = (refl, (refl, (refl, (refl, (refl, (refl, (refl, (refl, (refl, (refl, (refl, (refl, (refl, (refl, (refl, (refl, (refl, tt)))))))))))))))))
+
+-- A line that is too long, in the place of `nop`: it is 1, as the full read of the edited source is.
+unfoldable pub blanks : ℕ → List ℕ
+blanks zero = []
+blanks (suc n) = 32 ∷ blanks n
+
+pub too-long : patch operations (bytes "nop") (listing (ST 0 ∷ LI 0 3 97 0 3 3 ∷ [])) 0 (bytes "times 1" ++ blanks 65530) 1000 1000 ≡ refuses (nowhere 1)
+unfolding openPatch blanks
+too-long = refl
+
+-- Which lines leave a `times` open: none that the full read refuses with another number.
+pub open-alone : (leavesOpen operations (bytes "times 1") ≡ true) × (leavesOpen operations (bytes "times 1;\u{80}") ≡ false) × (leavesOpen operations (bytes "times 1" ++ blanks 65530) ≡ false)
+unfolding openPatch blanks spellings row rowsOf operations
+open-alone = (refl, refl, refl)
 
 -- A statement read of a source at a place, with a buffer of 1000 bytes.
 pub record Read : Type 0 where

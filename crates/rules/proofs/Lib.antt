@@ -23,6 +23,7 @@ pub mod Cut
 pub mod Exchange
 pub mod Listing
 pub mod Calls
+pub mod Alone
 pub mod Forward
 pub mod Demand3
 pub mod Bound

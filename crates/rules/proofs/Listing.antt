@@ -12,7 +12,7 @@ use borrow.Author.Tests.{le-leb, lt-leb, leb-true}
 use Rattle.rules.specs.Lexemes.{tokensFrom}
 use Rattle.rules.specs.Records.{Record, ST, VC, VL, VI, VS, PF, IN, OR, OS, OI, OF, OD, OX, LL, LI, LD, LC, LT, listing}
 use Rattle.rules.specs.Reader.{Refusal, Answer, done, refused, after}
-use Rattle.rules.specs.Statements.{Row, State, firstOf, enter, accepted, fullRead}
+use Rattle.rules.specs.Statements.{Row, State, firstOf, enter, accepted, reading}
 use Rattle.rules.specs.Decode.{decode}
 use Rattle.rules.specs.WellFormed.{Stack, complete, checked, checkedAll, fresh, wellFormed}
 use Rattle.rules.specs.Patch.{statementFrom}
@@ -162,8 +162,8 @@ module _ (table : List ℕ) (proper : Proper table) where
   gives-feed p s w u m g = fits (p + length (s ++ (10 ∷ []))) (p + length s) p fresh
       (begins-listed (p + length (s ++ (10 ∷ []))) (p + length s) (rowsFrom p (s ++ (10 ∷ []))) g p fresh (fresh-ready p) (chain-rows _ _ p p (s ++ (10 ∷ [])) refl (chain-feed p s m)))
 
-  pub listing-formed : (s : List ℕ) (w : List Record) → Small s → fullRead table s ≡ accepted w → wellFormed (length s) w ≡ true
-  unfolding fullRead wellFormed
+  pub listing-formed : (s : List ℕ) (w : List Record) → Small s → reading table s ≡ accepted w → wellFormed (length s) w ≡ true
+  unfolding reading wellFormed
   listing-formed s w m e =
       let (u, g) = accepts-run table 0 s w e in
       let f : Fits (0 + length s) (0 + length s) 0 fresh w = gives-fits 0 s w u m g in
@@ -172,8 +172,8 @@ module _ (table : List ℕ) (proper : Proper table) where
       rw c (f .whole)
 
   -- The bytes of a listing that is read are decoded to its records.
-  pub listing-decodes : (s : List ℕ) (w : List Record) → Small s → length s ≤ 65536 → fullRead table s ≡ accepted w → decode (listing w) ≡ some w
-  unfolding fullRead
+  pub listing-decodes : (s : List ℕ) (w : List Record) → Small s → length s ≤ 65536 → reading table s ≡ accepted w → decode (listing w) ≡ some w
+  unfolding reading
   listing-decodes s w m l e =
       let (u, g) = accepts-run table 0 s w e in
       let f : Fits (0 + length s) (0 + length s) 0 fresh w = gives-fits 0 s w u m g in

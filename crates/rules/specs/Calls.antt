@@ -2,7 +2,7 @@
 use mathlib.Core.Bool.{Bool, true, false}
 use mathlib.Core.List.{List, [], _∷_, _++_}
 use mathlib.Core.Option.{Option, none, some}
-use Prim.Native.Nat.{ℕ, suc, _+_}
+use Prim.Native.Nat.{ℕ, suc, _+_, _*_}
 use lib.Dec.{ltb}
 use lib.ListN.{length, drop}
 use Rattle.lexer.specs.Text.{if_then_else_, maybe}
@@ -13,7 +13,7 @@ use Rattle.lexer.specs.declared.TokenRead.the-variants.{Read, Refused}
 use Rattle.rules.specs.Lexemes.{tokensFrom}
 use Rattle.rules.specs.Records.{Record, listing}
 use Rattle.rules.specs.Reader.{Refusal, at, nowhere, Answer, done, refused, arrive}
-use Rattle.rules.specs.Statements.{Row, State, enter, rows, statement, Outcome, accepted, refusal, fullRead, openStatements}
+use Rattle.rules.specs.Statements.{Row, State, enter, rows, statement, Outcome, accepted, refusal, reading, openStatements}
 
 -- A call's answer: what it gives, or a refusal.
 pub data Result (A : Type 0) : Type 0 where
@@ -65,16 +65,20 @@ tokenRead p (Refused n f) = refuses (at (faultNumber f) p (p + n))
 unfoldable pub tokenCall : List ℕ → ℕ → Result Token
 tokenCall source p = lentAt source p (tokenRead p (tokenAt (drop p source)))
 
--- The full read, lent a listing buffer: the records that it writes.
+-- THE FULL READ, lent a listing buffer: 1 and 2, then the reading, then 4; the records that it writes.
 unfoldable pub listed : ℕ → Outcome → Result (List Record)
 listed room (accepted w) = inRoom room w w
 listed room (refusal r) = refuses r
 
-unfoldable pub fullCall : List ℕ → List ℕ → ℕ → Result (List Record)
-fullCall table source room = lent source (listed room (fullRead table source))
+unfoldable pub fullRead : List ℕ → List ℕ → ℕ → Result (List Record)
+fullRead table source room = lent source (listed room (reading table source))
+
+-- A listing is never longer than 18 times its source: a buffer of so many bytes is long enough.
+unfoldable pub enough : List ℕ → ℕ
+enough source = 18 * length source
 
 unfoldable pub fullBuffer : List ℕ → List ℕ → List ℕ → List ℕ
-fullBuffer table source buffer = leaves listing (fullCall table source (length buffer)) buffer
+fullBuffer table source buffer = leaves listing (fullRead table source (length buffer)) buffer
 
 -- The statement read at a place, lent a listing buffer. It begins as the parser would at that place, with spans counted from byte 0, and
 -- gives that one statement's records, ST first, and the place of the token ahead, or answers that none is left and writes nothing.
@@ -102,5 +106,5 @@ unfoldable pub statementBuffer : List ℕ → List ℕ → ℕ → List ℕ → 
 statementBuffer table source p buffer = leaves foundBytes (statementCall table source p (length buffer)) buffer
 
 unfoldable pub openCalls : Unit {0}
-unfolding openStatements unless mostBytes tooLong foreign ascii lent lentAt inRoom overwrite leaves tokenCall listed fullCall fullBuffer oneFound oneRead statementCall foundBytes statementBuffer
+unfolding openStatements unless mostBytes tooLong foreign ascii lent lentAt inRoom overwrite leaves tokenCall listed fullRead enough fullBuffer oneFound oneRead statementCall foundBytes statementBuffer
 openCalls = tt

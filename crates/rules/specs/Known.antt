@@ -6,41 +6,40 @@ use Prim.Native.String.{String}
 use lib.IntN.{ℤ, pos, negsuc}
 use Rattle.lexer.specs.Text.{bytes}
 use Rattle.names.specs.Table.{operations, spellings, row, rowsOf}
-use Rattle.rules.specs.Records.{ST, VC, VL, VS, PF, IN, OR, OI, OF, OX, LL, LI, LD, LC, LT}
+use Rattle.rules.specs.Records.{Record, ST, VC, VL, VS, PF, IN, OR, OI, OF, OX, LL, LI, LD, LC, LT}
 use Rattle.rules.specs.Reader.{at, nowhere, encoding}
-use Rattle.rules.specs.Statements.{Outcome, accepted, refusal, fullRead, openStatements}
-use Rattle.rules.specs.Calls.{Result, gives, refuses}
+use Rattle.rules.specs.Calls.{Result, gives, refuses, fullRead, enough, openCalls}
 use Rattle.rules.specs.Evaluate.{evaluate, openEvaluate}
 
 pub record Sample : Type 0 where
   pub source : String
-  pub answer : Outcome
+  pub answer : Result (List Record)
 
 infix 80 _reads_
-abbrev pub _reads_ : String → Outcome → Sample
+abbrev pub _reads_ : String → Result (List Record) → Sample
 s reads o = record { source = s; answer = o }
 
 -- A source, and what the full read makes of it.
 unfoldable pub samples : List Sample
 samples =
-    "mov ax,[bx+4]" reads accepted (ST 0 ∷ OR 4 6 8 ∷ VC 11 12 4 ∷ PF 10 12 0 ∷ OX 7 13 7 1 0 0 ∷ LI 0 13 0 2 4 13 ∷ [])
-    ∷ "equ -1+2*3" reads accepted (ST 0 ∷ VC 5 6 1 ∷ PF 4 6 1 ∷ VC 7 8 2 ∷ VC 9 10 3 ∷ IN 7 10 2 ∷ IN 4 10 0 ∷ LC 0 10 ∷ [])
-    ∷ "equ 8/4/2" reads accepted (ST 0 ∷ VC 4 5 8 ∷ VC 6 7 4 ∷ IN 4 7 3 ∷ VC 8 9 2 ∷ IN 4 9 3 ∷ LC 0 9 ∷ [])
-    ∷ "equ $$" reads accepted (ST 0 ∷ VS 4 5 ∷ LC 0 6 ∷ [])
-    ∷ "dw 70000" reads accepted (ST 0 ∷ LD 0 8 (112 ∷ 17 ∷ []) ∷ [])
-    ∷ "db ,," reads refusal (at 23 0 2)
-    ∷ "jmp 1:2" reads accepted (ST 0 ∷ VC 4 5 1 ∷ VC 6 7 2 ∷ OF 4 7 ∷ LI 0 7 59 1 4 7 ∷ [])
-    ∷ "mov [ ax],bx" reads refusal (encoding 6 5 8 255)
-    ∷ "mov ax,[si+di]" reads refusal (at 33 8 13)
-    ∷ "dw 0abh" reads refusal (at 30 3 6)
-    ∷ "dw 10bh" reads refusal (at 15 6 7)
-    ∷ "equ *5" reads refusal (nowhere 22)
+    "mov ax,[bx+4]" reads gives (ST 0 ∷ OR 4 6 8 ∷ VC 11 12 4 ∷ PF 10 12 0 ∷ OX 7 13 7 1 0 0 ∷ LI 0 13 0 2 4 13 ∷ [])
+    ∷ "equ -1+2*3" reads gives (ST 0 ∷ VC 5 6 1 ∷ PF 4 6 1 ∷ VC 7 8 2 ∷ VC 9 10 3 ∷ IN 7 10 2 ∷ IN 4 10 0 ∷ LC 0 10 ∷ [])
+    ∷ "equ 8/4/2" reads gives (ST 0 ∷ VC 4 5 8 ∷ VC 6 7 4 ∷ IN 4 7 3 ∷ VC 8 9 2 ∷ IN 4 9 3 ∷ LC 0 9 ∷ [])
+    ∷ "equ $$" reads gives (ST 0 ∷ VS 4 5 ∷ LC 0 6 ∷ [])
+    ∷ "dw 70000" reads gives (ST 0 ∷ LD 0 8 (112 ∷ 17 ∷ []) ∷ [])
+    ∷ "db ,," reads refuses (at 23 0 2)
+    ∷ "jmp 1:2" reads gives (ST 0 ∷ VC 4 5 1 ∷ VC 6 7 2 ∷ OF 4 7 ∷ LI 0 7 59 1 4 7 ∷ [])
+    ∷ "mov [ ax],bx" reads refuses (encoding 6 5 8 255)
+    ∷ "mov ax,[si+di]" reads refuses (at 33 8 13)
+    ∷ "dw 0abh" reads refuses (at 30 3 6)
+    ∷ "dw 10bh" reads refuses (at 15 6 7)
+    ∷ "equ *5" reads refuses (nowhere 22)
     ∷ []
 
-unfoldable pub read : Sample → Outcome
-read k = fullRead operations (bytes (k .source))
+unfoldable pub read : Sample → Result (List Record)
+read k = fullRead operations (bytes (k .source)) (enough (bytes (k .source)))
 
-unfoldable pub wanted : Sample → Outcome
+unfoldable pub wanted : Sample → Result (List Record)
 wanted k = k .answer
 
 -- Every row's source is read as the row says.
@@ -49,40 +48,40 @@ Agree [] = Unit {0}
 Agree (k ∷ ks) = (read k ≡ wanted k) × Agree ks
 
 pub known : Agree samples
-unfolding openStatements spellings row rowsOf operations samples read wanted Agree
+unfolding openCalls spellings row rowsOf operations samples read wanted Agree
 known = (refl, (refl, (refl, (refl, (refl, (refl, (refl, (refl, (refl, (refl, (refl, (refl, tt))))))))))))
 
 -- the further samples of document 01, and rules that no K has
 unfoldable pub more : List Sample
 more =
-    "" reads accepted []
-    ∷ "equ 0x7fffffff" reads accepted (ST 0 ∷ VC 4 14 2147483647 ∷ LC 0 14 ∷ [])
-    ∷ "equ 0x80000000" reads refusal (at 31 4 14)
-    ∷ "equ 2147483648" reads refusal (at 21 4 5)
-    ∷ "k equ 2\n" reads accepted (ST 0 ∷ LL 0 1 ∷ ST 2 ∷ VC 6 7 2 ∷ LC 2 7 ∷ [])
-    ∷ "equ (((((((((((((((((((((((((((((((1)))))))))))))))))))))))))))))))" reads accepted (ST 0 ∷ VC 35 36 1 ∷ LC 0 67 ∷ [])
-    ∷ "equ ((((((((((((((((((((((((((((((((1))))))))))))))))))))))))))))))))" reads refusal (at 3 36 37)
-    ∷ "times 2\n\n times 3 db 'ab',1 ; x\nx: mov word byte [es:bp+di-4], 'c'\n" reads accepted (
+    "" reads gives []
+    ∷ "equ 0x7fffffff" reads gives (ST 0 ∷ VC 4 14 2147483647 ∷ LC 0 14 ∷ [])
+    ∷ "equ 0x80000000" reads refuses (at 31 4 14)
+    ∷ "equ 2147483648" reads refuses (at 21 4 5)
+    ∷ "k equ 2\n" reads gives (ST 0 ∷ LL 0 1 ∷ ST 2 ∷ VC 6 7 2 ∷ LC 2 7 ∷ [])
+    ∷ "equ (((((((((((((((((((((((((((((((1)))))))))))))))))))))))))))))))" reads gives (ST 0 ∷ VC 35 36 1 ∷ LC 0 67 ∷ [])
+    ∷ "equ ((((((((((((((((((((((((((((((((1))))))))))))))))))))))))))))))))" reads refuses (at 3 36 37)
+    ∷ "times 2\n\n times 3 db 'ab',1 ; x\nx: mov word byte [es:bp+di-4], 'c'\n" reads gives (
     ST 0 ∷ VC 6 7 2 ∷ VC 16 17 3 ∷ LD 18 27 (97 ∷ 98 ∷ 1 ∷ []) ∷ LT ∷ LT ∷ ST 32 ∷ LL 32 33
     ∷ ST 35 ∷ VC 59 60 4 ∷ PF 58 60 1 ∷ OX 49 61 3 1 1 1 ∷ VC 63 66 99 ∷ OI 63 66 ∷ LI 35 66 0 2 39 66 ∷ [])
-    ∷ "times 2\n" reads refusal (at 34 0 5)
-    ∷ "mov [es:],1" reads refusal (at 32 4 9)
-    ∷ "mov ax bx" reads refusal (at 11 7 9)
-    ∷ "times 2 ;c" reads refusal (at 34 0 5)
-    ∷ "times times+5" reads refusal (at 34 0 5)
-    ∷ "times 2\n;c\n \n" reads refusal (at 34 0 5)
-    ∷ "mov" reads accepted (ST 0 ∷ LI 0 3 0 0 3 3 ∷ [])
-    ∷ "equ" reads refusal (at 21 3 3)
-    ∷ "equ\n" reads refusal (at 21 3 4)
-    ∷ "equ 1 2" reads refusal (at 10 6 7)
-    ∷ "nop\n0abh" reads refusal (at 30 4 7)
-    ∷ "\n\n0abh" reads refusal (at 30 2 5)
-    ∷ " \n;x\n" reads accepted []
-    ∷ "rep movsb\nJNAE x\n" reads accepted (ST 0 ∷ LI 0 3 46 0 3 3 ∷ ST 4 ∷ LI 4 9 48 0 9 9 ∷ ST 10 ∷ VL 15 16 ∷ OI 15 16 ∷ LI 10 16 64 1 15 16 ∷ [])
+    ∷ "times 2\n" reads refuses (at 34 0 5)
+    ∷ "mov [es:],1" reads refuses (at 32 4 9)
+    ∷ "mov ax bx" reads refuses (at 11 7 9)
+    ∷ "times 2 ;c" reads refuses (at 34 0 5)
+    ∷ "times times+5" reads refuses (at 34 0 5)
+    ∷ "times 2\n;c\n \n" reads refuses (at 34 0 5)
+    ∷ "mov" reads gives (ST 0 ∷ LI 0 3 0 0 3 3 ∷ [])
+    ∷ "equ" reads refuses (at 21 3 3)
+    ∷ "equ\n" reads refuses (at 21 3 4)
+    ∷ "equ 1 2" reads refuses (at 10 6 7)
+    ∷ "nop\n0abh" reads refuses (at 30 4 7)
+    ∷ "\n\n0abh" reads refuses (at 30 2 5)
+    ∷ " \n;x\n" reads gives []
+    ∷ "rep movsb\nJNAE x\n" reads gives (ST 0 ∷ LI 0 3 46 0 3 3 ∷ ST 4 ∷ LI 4 9 48 0 9 9 ∷ ST 10 ∷ VL 15 16 ∷ OI 15 16 ∷ LI 10 16 64 1 15 16 ∷ [])
     ∷ []
 
 pub more-known : Agree more
-unfolding openStatements spellings row rowsOf operations more read wanted Agree
+unfolding openCalls spellings row rowsOf operations more read wanted Agree
 more-known = (refl, (refl, (refl, (refl, (refl, (refl, (refl, (refl, (refl, (refl, (refl, (refl, (refl, (refl, (refl, (refl, (refl, (refl, (refl, (refl, (refl, (refl, tt))))))))))))))))))))))
 
 -- Samples of `evaluate`: an operator's number, two numbers, the answer.

@@ -9,9 +9,9 @@ use Rattle.lexer.specs.Text.{if_then_else_, maybe, is, among, run}
 use Rattle.lexer.specs.Tokens.{inComment}
 use Rattle.rules.specs.Lexemes.{Lexeme, tokensFrom}
 use Rattle.rules.specs.Records.{Record, ST, VC, VL, VI, VS, PF, IN, OR, OS, OI, OF, OD, OX, LL, LI, LD, LC, LT, moveRecord, listing}
-use Rattle.rules.specs.Reader.{Refusal, at, nowhere, encoding, isLineEnd}
-use Rattle.rules.specs.Statements.{Outcome, accepted, refusal, fullRead, readFrom}
-use Rattle.rules.specs.Calls.{Result, refuses, unless, tooLong, ascii, inRoom, leaves, openCalls}
+use Rattle.rules.specs.Reader.{nowhere, valuesOf, isLineEnd}
+use Rattle.rules.specs.Statements.{Outcome, accepted, refusal, readFrom}
+use Rattle.rules.specs.Calls.{Result, gives, refuses, unless, tooLong, ascii, fullRead, enough, inRoom, leaves, openCalls}
 use Rattle.rules.specs.Decode.{decode, openDecode}
 use Rattle.rules.specs.WellFormed.{wellFormed, openWellFormed}
 
@@ -52,17 +52,12 @@ nearest [] = none
 nearest (l ∷ ls) = maybe (nearest ls) (if bareLine l then none else (some l)) some
 
 -- A line leaves a `times` without its content where the full read, given that line alone as its source, refuses it with 34.
-unfoldable pub lacksContent : Refusal → Bool
-lacksContent (at n f t) = eqb n 34
-lacksContent (nowhere n) = false
-lacksContent (encoding f t a b) = false
-
-unfoldable pub isOpen : Outcome → Bool
-isOpen (accepted w) = false
-isOpen (refusal r) = lacksContent r
+unfoldable pub isOpen : Result (List Record) → Bool
+isOpen (gives w) = false
+isOpen (refuses r) = eqb (valuesOf r .number) 34
 
 unfoldable pub leavesOpen : List ℕ → List ℕ → Bool
-leavesOpen table l = isOpen (fullRead table l)
+leavesOpen table l = isOpen (fullRead table l (enough l))
 
 -- 40: the replaced line, the new one, or the nearest line above that holds more than blanks and a comment leaves a `times` open.
 unfoldable pub openLine : List ℕ → List ℕ → ℕ → List ℕ → Bool
@@ -141,5 +136,5 @@ unfoldable pub patchListing : Result Edit → List ℕ → List ℕ
 patchListing r buffer = leaves (λ e. listing (e .records)) r buffer
 
 unfoldable pub openPatch : Unit {0}
-unfolding openCalls openDecode openWellFormed beginsLine above lineAt behind edited linesFrom allEnds bareLine nearest lacksContent isOpen leavesOpen openLine statementFrom recordsBelow recordsOn exchanged placedIn reread patched patch patchSource patchListing
+unfolding openCalls openDecode openWellFormed beginsLine above lineAt behind edited linesFrom allEnds bareLine nearest isOpen leavesOpen openLine statementFrom recordsBelow recordsOn exchanged placedIn reread patched patch patchSource patchListing
 openPatch = tt

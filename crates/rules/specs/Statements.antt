@@ -196,13 +196,13 @@ module _ (table : List ℕ) where
   readRows n [] = refused (nowhere 0)  -- no source has no row
   readRows n (r ∷ rs) = arrive (r .first) (statements n (enter r rs))
 
-  -- The reading of bytes that stand from place p on, and of a source.
+  -- The reading of bytes that may be read, which stand from place p on, or are a source. What is asked of a source before is in Calls.
   unfoldable pub readFrom : ℕ → List ℕ → Outcome
   readFrom p s = outcome (readRows (suc (length s)) (rows (tokensFrom p 0 s)))
 
-  unfoldable pub fullRead : List ℕ → Outcome
-  fullRead source = readFrom 0 source
+  unfoldable pub reading : List ℕ → Outcome
+  reading source = readFrom 0 source
 
 unfoldable pub openStatements : Unit {0}
-unfolding openOperands push rows over inLine firstOf enter stepRow nextRow lineEnd skip skipLines passing label instruction constant literalOf literals someData dataOf line content times begun statement statements outcome readRows readFrom fullRead openRecords
+unfolding openOperands push rows over inLine firstOf enter stepRow nextRow lineEnd skip skipLines passing label instruction constant literalOf literals someData dataOf line content times begun statement statements outcome readRows readFrom reading openRecords
 openStatements = tt

@@ -85,7 +85,7 @@ use Prim.Native.Nat.{{ℕ}}
 use Rattle.names.specs.Table.{{operations, spellings, row as tableRow, rowsOf}}
 use Rattle.rules.specs.Records.{{Record, ST, VC, VL, VI, VS, PF, IN, OR, OS, OI, OF, OD, OX, LL, LI, LD, LC, LT}}
 use Rattle.rules.specs.Reader.{{at, nowhere, encoding}}
-use Rattle.rules.specs.Calls.{{Result, gives, refuses, fullCall, openCalls}}
+use Rattle.rules.specs.Calls.{{Result, gives, refuses, fullRead, openCalls}}
 
 pub record Row : Type 0 where
   pub source : List ℕ
@@ -101,7 +101,7 @@ rows =
 
 unfoldable pub Agree : List Row → Type 0
 Agree [] = Unit {{0}}
-Agree (r ∷ rs) = (fullCall operations (r .source) 1000000 ≡ r .answer) × Agree rs
+Agree (r ∷ rs) = (fullRead operations (r .source) 1000000 ≡ r .answer) × Agree rs
 
 pub agree : Agree rows
 unfolding openCalls spellings tableRow rowsOf operations rows Agree
