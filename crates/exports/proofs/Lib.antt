@@ -1,3 +1,4 @@
 pub mod Signed
 pub mod LookedUp
 pub mod Counting
+pub mod Writing

@@ -1,11 +1,17 @@
 -- The answers of the calls as the numbers that Rust and C take: document 01's number, span and registers of each case.
-use Prim.Native.Nat.{ℕ}
+use Prim.Native.Nat.{ℕ, _*_, _≤_}
+use mathlib.Core.Path.{_≡_}
+use mathlib.Core.Bool.{true, false}
+use mathlib.Core.List.{List}
 use lib.Dec.{eqb}
 use lib.IntN.{ℤ, pos}
-use Rattle.lexer.specs.Text.{if_then_else_}
+use lib.ListN.{length, take}
+use Rattle.lexer.specs.Text.{if_then_else_, maybe}
 use Rattle.lexer.specs.Scanned.{endOfFile}
 use Rattle.rules.specs.Calls.{Result, gives, refuses}
 use Rattle.rules.specs.Evaluate.{evaluate}
+use Rattle.rules.specs.Decode.{decode}
+use Rattle.rules.specs.WellFormed.{wellFormed}
 use Rattle.parser.specs.declared.state.Refusal.{Refusal}
 use Rattle.parser.specs.Views.{numbersOf}
 use Rattle.reader.specs.declared.FullAnswer.{FullAnswer}
@@ -38,6 +44,13 @@ full refusal length = record { refusal = refusal; length = length }
 abbrev pub fullReading : FullAnswer → FullReading
 fullReading (answer.Written n) = full (numbered 0) n
 fullReading (answer.Refused r) = full (numbers r) 0
+
+-- What holds of the bytes of the buffer l that a full read of the source s has written, as `Writes` says of its answer: they are within
+-- the buffer, at most 18 times the source, and a well-formed listing. At a refusal there are none.
+pub record Written (s l : List ℕ) (r : FullReading) : Type 0 where
+  pub within : r .length ≤ length l
+  pub bounded : r .length ≤ 18 * length s
+  pub formed : maybe (decode (take (r .length) l)) false (wellFormed (length s)) ≡ true
 
 abbrev pub one : Numbers → ℕ → ℕ → ℕ → StatementReading
 one refusal found length ahead = record { refusal = refusal; found = found; length = length; ahead = ahead }

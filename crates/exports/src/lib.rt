@@ -27,11 +27,11 @@ ghost use Rattle.rules.specs.Evaluate.{evaluate};
 ghost use Rattle.rules.specs.Patch.{patch as patchCall, patchSource, patchListing};
 ghost use Rattle.parser.specs.Operators.{operatorNumber, resultOf};
 ghost use Rattle.reader.specs.Calls.{tokenAnswer, statementAnswer, fullAnswer};
-ghost use Rattle.patch.specs.Patched.{patchAnswer};
+ghost use Rattle.patch.specs.Patched.{patchAnswer, AsFullRead};
 ghost use Rattle.exports.specs.Found as spec;
 ghost use Rattle.exports.specs.Found.{literalFound, tokenFound, nextFound, operationByte, lookedUp, nameNumber, directiveByte};
 ghost use Rattle.exports.specs.Readings as readings;
-ghost use Rattle.exports.specs.Readings.{fullReading, statementReading, tokenReading, patching, valuation, valued};
+ghost use Rattle.exports.specs.Readings.{fullReading, Written, statementReading, tokenReading, patching, valuation, valued};
 
 // A token as numbers: its kind as in `lexer::Scanned`, a number's value or an invalid token's byte, and the place behind it.
 #[repr(C)]
@@ -288,6 +288,7 @@ fn full_reading(a: FullAnswer) -> FullReading
 pub extern "C" fn laqhoncu_full_read(source: &[u8], out: &mut [u8]) -> FullReading
     ensures answer { λ r. ⌜ r ≡ fullReading (fullAnswer (rules.fullRead operations (now (source .entry)) (length (now (out .entry))))) ⌝ }
     ensures buffer { λ _. ⌜ now (out .exit) ≡ rules.fullBuffer operations (now (source .entry)) (now (out .entry)) ⌝ }
+    ensures written { λ r. ⌜ Written (now (source .entry)) (now (out .exit)) r ⌝ }
 {
     let a = reader::full_read(source, out);
     full_reading(a)
@@ -386,6 +387,8 @@ pub extern "C" fn laqhoncu_patch(
     ensures answer { λ r. ⌜ r ≡ patching (patchAnswer (patchCall operations (now (old .entry)) (now (listing .entry)) place (now (text .entry)) (length (now (source .entry))) (length (now (out .entry))))) ⌝ }
     ensures source { λ _. ⌜ now (source .exit) ≡ patchSource (patchCall operations (now (old .entry)) (now (listing .entry)) place (now (text .entry)) (length (now (source .entry))) (length (now (out .entry)))) (now (source .entry)) ⌝ }
     ensures listing { λ _. ⌜ now (out .exit) ≡ patchListing (patchCall operations (now (old .entry)) (now (listing .entry)) place (now (text .entry)) (length (now (source .entry))) (length (now (out .entry)))) (now (out .entry)) ⌝ }
+    ensures demand_3 { λ r. ⌜ AsFullRead patching (now (old .entry)) (now (listing .entry)) place (now (text .entry))
+        (now (source .entry)) (now (source .exit)) (now (out .entry)) (now (out .exit)) r ⌝ }
 {
     let a = patch::patch(old, listing, place, text, source, out);
     patching_of(a)

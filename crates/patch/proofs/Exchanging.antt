@@ -55,20 +55,22 @@ module _ (ed : List ℕ) where
   listings (gives w) l = refl
   listings (refuses c) l = refl
 
-pub as-full-read : {old bytes : List ℕ} {a : ℕ} {new s s′ l l′ : List ℕ} {r : PatchAnswer} → Patches (patch operations old bytes a new (length s) (length l)) s s′ l l′ r → AsFullRead old bytes a new s s′ l l′ r
+pub as-full-read : {old bytes : List ℕ} {a : ℕ} {new s s′ l l′ : List ℕ} {r : PatchAnswer} → Patches (patch operations old bytes a new (length s) (length l)) s s′ l l′ r
+    → AsFullRead (λ x. x) old bytes a new s s′ l l′ r
 unfolding fullBuffer
 as-full-read {old} {bytes} {a} {new} {s} {l = l} p = record {
-  so = λ room w acc e h f o i.
+  so = λ d.
       let ed : List ℕ = edited old a new in
       let x : Result (List Record) = fullRead operations ed (length l) in
-      let k : patch operations old bytes a new (length s) (length l) ≡ edits ed x = ap (λ (b : List ℕ). patch operations old b a new (length s) (length l)) e ∙ demand-3 operations proper old w a new room (length s) (length l) acc h f o i in
+      let k : patch operations old bytes a new (length s) (length l) ≡ edits ed x = ap (λ (b : List ℕ). patch operations old b a new (length s) (length l)) (d .its-listing)
+      ∙ demand-3 operations proper old (d .records) a new (d .room) (length s) (length l) (d .accepted) (d .a-line) (d .one-line) (d .none-open) (d .long-enough) in
       (p .answer ∙ ap patchAnswer k ∙ answers ed x, p .source ∙ ap (λ (y : Result Edit). patchSource y s) k ∙ sources ed x s, p .listing ∙ ap (λ (y : Result Edit). patchListing y l) k ∙ listings ed x l);
 }
 
 -- The clauses of the contract.
 pub clauses : {old bytes : List ℕ} {a : ℕ} {new s s′ l l′ : List ℕ} {r : PatchAnswer} → Patches (patch operations old bytes a new (length s) (length l)) s s′ l l′ r
     → (r ≡ patchAnswer (patch operations old bytes a new (length s) (length l))) × ((s′ ≡ patchSource (patch operations old bytes a new (length s) (length l)) s) × ((l′ ≡ patchListing (patch operations old bytes a new (length s) (length l)) l)
-    × AsFullRead old bytes a new s s′ l l′ r))
+    × AsFullRead (λ x. x) old bytes a new s s′ l l′ r))
 clauses p = (p .answer, (p .source, (p .listing, as-full-read p)))
 
 pub both-short : (n m : ℕ) → (ltb 65536 n || ltb 65536 m) ≡ false → (n ≤ 65536) × (m ≤ 65536)

@@ -46,13 +46,23 @@ abbrev pub asPatch : ℕ → FullAnswer → PatchAnswer
 asPatch n (full.Written m) = Written n m
 asPatch n (full.Refused r) = Refused r
 
--- DEMAND 3. Every accepted source with its listing, each of its lines, and every new text without a line feed; no line of the proviso
--- leaves a `times` open; the source buffer is long enough. Then the patch answers as the full read of the edited source does, lent as
--- many bytes for the listing: the same length, or the same number, span and registers; and it leaves the same bytes there. Where that
--- read accepts, the edited source is written; else nothing is.
-pub record AsFullRead (old bytes : List ℕ) (a : ℕ) (new s s′ l l′ : List ℕ) (r : PatchAnswer) : Type 0 where
-  pub so : (room : ℕ) (w : List Record) → fullRead operations old room ≡ gives w → bytes ≡ listing w → beginsLine old a ≡ true → among 10 new ≡ false
-      → openLine operations old a new ≡ false → length (edited old a new) ≤ length s
-      → (r ≡ asPatch (length (edited old a new)) (fullAnswer (fullRead operations (edited old a new) (length l))))
+-- What demand 3 supposes: an accepted source with its listing, one of its lines, a new text without a line feed; no line of the proviso
+-- leaves a `times` without its content; the source buffer is long enough.
+pub record Supposed (old bytes : List ℕ) (a : ℕ) (new s : List ℕ) : Type 0 where
+  pub room : ℕ
+  pub records : List Record
+  pub accepted : fullRead operations old room ≡ gives records
+  pub its-listing : bytes ≡ listing records
+  pub a-line : beginsLine old a ≡ true
+  pub one-line : among 10 new ≡ false
+  pub none-open : openLine operations old a new ≡ false
+  pub long-enough : length (edited old a new) ≤ length s
+
+-- DEMAND 3. The patch answers as the full read of the edited source does, lent as many bytes for the listing: the same length, or the same
+-- number, span and registers; and it leaves the same bytes there. Where that read accepts, the edited source is written; else nothing is.
+-- `given` says in which form the answer r is given.
+pub record AsFullRead {R : Type 0} (given : PatchAnswer → R) (old bytes : List ℕ) (a : ℕ) (new s s′ l l′ : List ℕ) (r : R) : Type 0 where
+  pub so : Supposed old bytes a new s
+      → (r ≡ given (asPatch (length (edited old a new)) (fullAnswer (fullRead operations (edited old a new) (length l)))))
       × (s′ ≡ leaves (λ (v : List Record). edited old a new) (fullRead operations (edited old a new) (length l)) s)
       × (l′ ≡ fullBuffer operations (edited old a new) l)

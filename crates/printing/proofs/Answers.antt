@@ -1,11 +1,11 @@
 -- What is printed of a full read's answer: the bytes that it wrote decode to the records that it gives.
-use Prim.Native.Nat.{ℕ, _+_, _-_, _≤_, min}
-use mathlib.Core.Path.{_≡_, refl, ap, _∙_}
+use Prim.Native.Nat.{ℕ, _+_, _*_, _-_, _≤_, _<_, min}
+use mathlib.Core.Path.{_≡_, refl, sym, ap, _∙_}
 use mathlib.Core.Bool.{true≢false}
 use mathlib.Core.List.{List}
 use native.Mathlib.Omega.{arith}
 use lib.ListN.{length, length-append, length-take, length-drop, take, drop}
-use lib.Seq.{take-append-seam}
+use lib.Seq.{take-all, take-append-seam}
 use Rattle.io.specs.Counts.{Counts}
 use Rattle.names.specs.Table.{operations}
 use Rattle.rules.specs.Records.{Record, listing}
@@ -17,8 +17,8 @@ use Rattle.parser.specs.declared.state.Refusal.{Refusal}
 use Rattle.reader.specs.declared.FullAnswer.the-variants.{Written, Refused}
 use Rattle.parser.specs.Views.{numbersOf}
 use Rattle.reader.specs.Calls.{fullAnswer}
-use Rattle.printing.specs.Text.{Holds}
-use Rattle.printing.specs.Lines.{textOf, refusalText, answerText, recordsIn}
+use Rattle.printing.specs.Text.{Holds, Whole}
+use Rattle.printing.specs.Lines.{textOf, refusalText, answerText, answered, printed, recordsIn}
 use Rattle.printing.proofs.Records.{text-of-listing}
 
 -- text that is not too long is whole, and lies within the buffer
@@ -52,3 +52,20 @@ module _ (s l l′ : List ℕ) where
       go : (x : Result (List Record)) → Refused r ≡ fullAnswer x → refusalText (r .number) (r .from) (r .to) (r .first) (r .second) ≡ answerText x
       go (gives w) e = absurd (true≢false cc)
       go (refuses c) e = let k : r ≡ numbersOf c = cc in rw k
+
+-- An input that is longer than its buffer was read to the buffer's end.
+pub cut-off : (n e : ℕ) (input : List ℕ) → length input ≡ 65537 → 65537 < n → e ≡ 65537 → take (e - 0) input ≡ take n input
+cut-off n e input long h k = take-all (e - 0) input (omega arith) ∙ sym (take-all n input (omega arith))
+
+pub not-cut-off : (n e : ℕ) (input : List ℕ) → e ≡ n → take (e - 0) input ≡ take n input
+not-cut-off n e input k = let i : e - 0 ≡ n = omega arith in rw i
+
+-- With the buffers of `listing` every text is whole.
+pub all-said : (source l : List ℕ) {t t′ : List ℕ} {r : ℕ} → length l ≡ 65536 → length t ≡ 393325 → Holds (answered source l) t t′ r
+    → (6 * length l + 109 ≤ length t → r ≡ length (answered source l)) → Whole (printed source) t t′ r
+all-said source l {t} {t′} {r} e f h k =
+    let size : r ≡ length (answered source l) = k (omega arith) in
+    let fits : take (length t) (answered source l) ≡ answered source l =
+    take-all (length t) (answered source l) (omega (arith, h .size, length-take (length t) (answered source l))) in
+    let same : answered source l ≡ printed source = ap (λ (n : ℕ). answerText (fullRead operations source n)) e in
+    record { text = h .text ∙ ap (λ (b : List ℕ). overwrite b t) (fits ∙ same); size = size ∙ ap length same }

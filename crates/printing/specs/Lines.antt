@@ -53,6 +53,14 @@ unfoldable pub answerText : Result (List Record) → List ℕ
 answerText (gives rs) = textOf rs
 answerText (refuses c) = let r : Refusal = numbersOf c in refusalText (r .number) (r .from) (r .to) (r .first) (r .second)
 
+-- With as many bytes lent for the listing as the buffer l has.
+abbrev pub answered : List ℕ → List ℕ → List ℕ
+answered s l = answerText (fullRead operations s (length l))
+
+-- `listing` lends 65,536 bytes for the listing.
+abbrev pub printed : List ℕ → List ℕ
+printed input = answerText (fullRead operations input 65536)
+
 -- The records that bytes begin with, of which the first k belong to one that is already read. A listing has nothing else.
 unfoldable pub recordsIn : ℕ → List ℕ → List Record
 recordsIn zero [] = []
@@ -65,7 +73,7 @@ unfolding openText line lineOf linesOf textOf refusalText answerText
 openLines = tt
 
 -- The rules' sample, from its source to what is printed; then LD's bytes and a negative value.
-sample : answerText (fullRead operations (bytes "k equ 2\n") 65536) ≡ bytes "ST 0\nLL 0 1\nST 2\nVC 6 7 2\nLC 2 7\nEND 5\n"
+sample : printed (bytes "k equ 2\n") ≡ bytes "ST 0\nLL 0 1\nST 2\nVC 6 7 2\nLC 2 7\nEND 5\n"
 unfolding openLines openCalls spellings row rowsOf operations
 sample = refl
 

@@ -42,6 +42,11 @@ pub record Holds (bs l l′ : List ℕ) (r : ℕ) : Type 0 where
   pub text : l′ ≡ overwrite (take (length l) bs) l
   pub size : r ≡ length (take (length l) bs)
 
+-- The whole text bs is written from the buffer's first byte on.
+pub record Whole (bs l l′ : List ℕ) (r : ℕ) : Type 0 where
+  pub text : l′ ≡ overwrite bs l
+  pub size : r ≡ length bs
+
 unfoldable pub openText : Unit {0}
 unfolding bytes decimalIn decimal signed numbers
 openText = tt

@@ -11,13 +11,13 @@ use text::put_signed;
 ghost use mathlib.Core.Path.{_≡_};
 ghost use mathlib.Core.List.{[], _∷_};
 ghost use Prim.Native.Nat.{_+_, _*_, _≤_, _<_};
-ghost use lib.ListN.{length};
+ghost use lib.ListN.{length, take};
 ghost use Rattle.io.specs.Counts.{Counts};
 ghost use Rattle.names.specs.Table.{operations};
-ghost use Rattle.rules.specs.Calls.{fullRead};
+ghost use Rattle.rules.specs.Calls.{fullBuffer};
 ghost use Rattle.rules.specs.Decode.{nth};
-ghost use Rattle.printing.specs.Text.{numbers, Wrote, Holds};
-ghost use Rattle.printing.specs.Lines.{line, textOf, refusalText, answerText, recordsIn};
+ghost use Rattle.printing.specs.Text.{numbers, Wrote, Holds, Whole};
+ghost use Rattle.printing.specs.Lines.{line, textOf, refusalText, answered, printed, recordsIn};
 ghost use Rattle.printing.specs.Shapes.{nths, lettersOf, fieldsIn, Shaped, Prints};
 
 // The marks that records open with: two letters as a number.
@@ -252,8 +252,9 @@ pub fn refusal_text(
 // of the listing's, and 109 more.
 pub fn answer_text(source: &[u8], listing: &mut [u8], text: &mut [u8]) -> usize
     ensures within { λ r. ⌜ Counts r (now (text .exit)) ⌝ }
-    ensures text { λ r. ⌜ Holds (answerText (fullRead operations (now (source .entry)) (length (now (listing .entry))))) (now (text .entry)) (now (text .exit)) r ⌝ }
-    ensures whole { λ r. ⌜ (6 * length (now (listing .entry)) + 109 ≤ length (now (text .entry)) → r ≡ length (answerText (fullRead operations (now (source .entry)) (length (now (listing .entry)))))) ⌝ }
+    ensures text { λ r. ⌜ Holds (answered (now (source .entry)) (now (listing .entry))) (now (text .entry)) (now (text .exit)) r ⌝ }
+    ensures whole { λ r. ⌜ (6 * length (now (listing .entry)) + 109 ≤ length (now (text .entry)) → r ≡ length (answered (now (source .entry)) (now (listing .entry)))) ⌝ }
+    ensures listing { λ _. ⌜ now (listing .exit) ≡ fullBuffer operations (now (source .entry)) (now (listing .entry)) ⌝ }
 {
     match full_read(source, listing) {
         FullAnswer::Written(n) => {
@@ -262,4 +263,24 @@ pub fn answer_text(source: &[u8], listing: &mut [u8], text: &mut [u8]) -> usize
         }
         FullAnswer::Refused(r) => { refusal_text(r.number, r.from, r.to, r.first, r.second, text) }
     }
+}
+
+// What the program `listing` prints of its input, of which n bytes were read: the text of the full read's answer, lent 65,536 bytes for the
+// listing. The input has one byte more than a source may have, so that a longer one is refused. The text has room for every answer.
+pub fn input_text(
+    input: &[u8; 65537],
+    n: usize,
+    listing: &mut [u8; 65536],
+    text: &mut [u8; 393325],
+) -> usize
+    ensures within { λ r. ⌜ Counts r (now (text .exit)) ⌝ }
+    ensures text { λ r. ⌜ Whole (printed (take n (now (input .entry)))) (now (text .entry)) (now (text .exit)) r ⌝ }
+    ensures listing { λ _. ⌜ now (listing .exit) ≡ fullBuffer operations (take n (now (input .entry))) (now (listing .entry)) ⌝ }
+{
+    let mut end = n;
+    if 65537 < n {
+        end = 65537;
+    }
+    let whole: &[u8] = input;
+    answer_text(&whole[0..end], listing, text)
 }

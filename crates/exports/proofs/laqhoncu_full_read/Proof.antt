@@ -2,6 +2,7 @@
 use borrow.Author.Needs.{needs}
 use mathlib.Core.Path.{_≡_, refl, sym, ap, _∙_}
 use Rattle.exports.specs.Readings.{fullReading}
+use Rattle.exports.proofs.Writing.{written}
 use Rattle.exports.proofs.laqhoncu_full_read.Statement.{statement}
 use Rattle.exports.proofs.laqhoncu_full_read.Tie as tie
 use Rattle.exports.proofs.laqhoncu_full_read.Reads as reads
@@ -19,7 +20,9 @@ same-length : tie.Need-same-length
 same-length c = search needs
 
 returns : tie.Need-returns
-returns c = (c .full-reading .ensures ∙ ap fullReading (c .before .before .before .full-read .ensures .0), c .before .before .before .full-read .ensures .1 .0)
+returns c =
+    let read = c .before .before .before .full-read .ensures in
+    (c .full-reading .ensures ∙ ap fullReading (read .0), (read .1 .0, written (c .full-reading .ensures) (read .1 .1)))
 
 pub laqhoncu-full-read-spec : {M : Type 1} → statement M
 laqhoncu-full-read-spec =

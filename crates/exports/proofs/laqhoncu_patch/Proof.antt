@@ -2,6 +2,7 @@
 use borrow.Author.Needs.{needs}
 use mathlib.Core.Path.{_≡_, refl, sym, ap, _∙_}
 use Rattle.exports.specs.Readings.{patching}
+use Rattle.exports.proofs.Writing.{as-full-read}
 use Rattle.exports.proofs.laqhoncu_patch.Statement.{statement}
 use Rattle.exports.proofs.laqhoncu_patch.Tie as tie
 use Rattle.exports.proofs.laqhoncu_patch.Reads as reads
@@ -22,7 +23,11 @@ same-length-2 : tie.Need-same-length-2
 same-length-2 c = search needs
 
 returns : tie.Need-returns
-returns c = (c .patching-of .ensures ∙ ap patching (c .before .before .before .before .before .patch .ensures .0), (c .before .before .before .before .before .patch .ensures .1 .0, c .before .before .before .before .before .patch .ensures .1 .1 .0))
+returns c =
+    let patched = c .before .before .before .before .before .patch .ensures in (
+      c .patching-of .ensures ∙ ap patching (patched .0),
+      (patched .1 .0, (patched .1 .1 .0, as-full-read (c .patching-of .ensures) (patched .1 .1 .1))),
+    )
 
 pub laqhoncu-patch-spec : {M : Type 1} → statement M
 laqhoncu-patch-spec =

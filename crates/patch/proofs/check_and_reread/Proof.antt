@@ -25,22 +25,49 @@ refused-at-requires : tie.Need-refused-at-requires
 refused-at-requires c κs = search needs
 
 returns : tie.Need-returns
-returns c = refused (nowhere 41) (ill-formed (now (c .before .before .before .before .before .before .before .before .before .args .old)) (now (c .before .before .before .before .before .before .before .before .before .args .listing)) (c .before .before .before .before .before .before .before .before .before .args .place) (now (c .before .before .before .before .before .before .before .before .before .args .text)) (now (c .before .before .before .before .before .before .before .before .before .args .source)) (now (c .before .before .before .before .before .before .before .before .before .args .out)) (sym (c .before .before .well-formed .ensures) ∙ not-true (c .before .before .well-formed .result) (c .before .if1 .taken))) (c .refused-at .ensures)
-
-table-requires : tie.Need-table-requires
-table-requires c κs = search needs
+returns c =
+    let checked = c .before .before in
+    let a = checked .before .before .before .before .before .before .before .args in
+    refused (nowhere 41)
+    (ill-formed (now (a .old)) (now (a .listing)) (a .place) (now (a .text)) (now (a .source)) (now (a .out))
+    (sym (checked .well-formed .ensures) ∙ not-true (checked .well-formed .result) (c .before .if1 .taken)))
+    (c .refused-at .ensures)
 
 open-line-requires : tie.Need-open-line-requires
-open-line-requires c κs = (c .before .before .before .before .before .before .before .before .before .before .pre .0, c .before .before .before .before .before .before .before .before .before .before .pre .1, c .before .before .before .before .before .before .before .before .before .before .pre .4, c .before .before .before .before .before .before .before .before .before .before .pre .5, c .before .table .ensures)
+open-line-requires c κs = let start = c .before .before .before .before .before .before .before .before in (start .pre .0, start .pre .4, start .pre .5)
 
 refused-at-requires-2 : tie.Need-refused-at-requires-2
 refused-at-requires-2 c κs = search needs
 
 returns-2 : tie.Need-returns-2
-returns-2 c = refused (nowhere 40) (is-open (now (c .before .before .before .before .before .before .before .before .before .before .before .before .before .args .old)) (now (c .before .before .before .before .before .before .before .before .before .before .before .before .before .args .listing)) (c .before .before .before .before .before .before .before .before .before .before .before .before .before .args .place) (now (c .before .before .before .before .before .before .before .before .before .before .before .before .before .args .text)) (now (c .before .before .before .before .before .before .before .before .before .before .before .before .before .args .source)) (now (c .before .before .before .before .before .before .before .before .before .before .before .before .before .args .out)) (well-formed (now (c .before .before .before .before .before .before .before .before .before .before .before .before .before .args .old)) (now (c .before .before .before .before .before .before .before .before .before .before .before .before .before .args .listing)) (c .before .before .before .before .before .before .before .before .before .before .before .before .before .args .place) (now (c .before .before .before .before .before .before .before .before .before .before .before .before .before .args .text)) (now (c .before .before .before .before .before .before .before .before .before .before .before .before .before .args .source)) (now (c .before .before .before .before .before .before .before .before .before .before .before .before .before .args .out)) (sym (c .before .before .before .before .before .before .well-formed .ensures) ∙ not-false (c .before .before .before .before .before .before .well-formed .result) (c .before .before .before .before .before .if1 .left))) (sym (c .before .before .open-line .ensures) ∙ c .before .if2 .taken)) (c .refused-at2 .ensures)
+returns-2 c =
+    let checked = c .before .before .before .before in
+    let a = checked .before .before .before .before .before .before .before .args in
+    refused (nowhere 40)
+    (is-open (now (a .old)) (now (a .listing)) (a .place) (now (a .text)) (now (a .source)) (now (a .out))
+    (well-formed (now (a .old)) (now (a .listing)) (a .place) (now (a .text)) (now (a .source)) (now (a .out))
+    (sym (checked .well-formed .ensures) ∙ not-false (checked .well-formed .result) (c .before .before .before .if1 .left)))
+    (sym (c .before .before .open-line .ensures) ∙ c .before .if2 .taken))
+    (c .refused-at2 .ensures)
+
+table-requires : tie.Need-table-requires
+table-requires c κs = search needs
 
 reread-requires : tie.Need-reread-requires
-reread-requires c κs = (c .before .before .before .before .before .before .before .before .before .before .before .before .before .before .before .pre .0, c .before .before .before .before .before .before .before .before .before .before .before .before .before .before .before .pre .2, c .before .before .before .before .before .before .before .before .before .before .before .before .before .before .before .pre .3, c .before .before .before .before .before .before .table .ensures, begins-within (now (c .before .before .before .before .before .before .before .before .before .before .before .before .before .before .before .args .old)) (c .before .before .before .before .before .before .before .before .before .before .before .before .before .before .before .args .place) (c .before .before .before .before .before .before .before .before .before .before .before .before .before .before .before .pre .4), c .before .before .before .before .before .before .before .before .before .before .before .before .before .before .before .pre .5, c .before .before .before .before .before .before .before .before .before .before .before .before .before .before .before .pre .6, (well-formed (now (c .before .before .before .before .before .before .before .before .before .before .before .before .before .before .before .args .old)) (now (c .before .before .before .before .before .before .before .before .before .before .before .before .before .before .before .args .listing)) (c .before .before .before .before .before .before .before .before .before .before .before .before .before .before .before .args .place) (now (c .before .before .before .before .before .before .before .before .before .before .before .before .before .before .before .args .text)) (now (c .before .before .before .before .before .before .before .before .before .before .before .before .before .before .before .args .source)) (now (c .before .before .before .before .before .before .before .before .before .before .before .before .before .before .before .args .out)) (sym (c .before .before .before .before .before .before .before .before .well-formed .ensures) ∙ not-false (c .before .before .before .before .before .before .before .before .well-formed .result) (c .before .before .before .before .before .before .before .if1 .left))) .decodes)
+reread-requires c κs =
+    let checked = c .before .before .before .before .before .before .before in
+    let start = checked .before .before .before .before .before .before .before in
+    let a = start .args in (
+      start .pre .0,
+      start .pre .2,
+      start .pre .3,
+      c .before .before .before .table .ensures,
+      begins-within (now (a .old)) (a .place) (start .pre .4),
+      start .pre .5,
+      start .pre .6,
+      well-formed (now (a .old)) (now (a .listing)) (a .place) (now (a .text)) (now (a .source)) (now (a .out))
+          (sym (checked .well-formed .ensures) ∙ not-false (checked .well-formed .result) (c .before .before .before .before .before .before .if1 .left)) .decodes,
+    )
 
 same-length : tie.Need-same-length
 same-length c = search needs
@@ -49,7 +76,16 @@ same-length-2 : tie.Need-same-length-2
 same-length-2 c = search needs
 
 returns-3 : tie.Need-returns-3
-returns-3 c = same-edit (is-closed (now (c .before .before .before .before .before .before .before .before .before .before .before .before .before .before .before .before .before .before .before .before .args .old)) (now (c .before .before .before .before .before .before .before .before .before .before .before .before .before .before .before .before .before .before .before .before .args .listing)) (c .before .before .before .before .before .before .before .before .before .before .before .before .before .before .before .before .before .before .before .before .args .place) (now (c .before .before .before .before .before .before .before .before .before .before .before .before .before .before .before .before .before .before .before .before .args .text)) (now (c .before .before .before .before .before .before .before .before .before .before .before .before .before .before .before .before .before .before .before .before .args .source)) (now (c .before .before .before .before .before .before .before .before .before .before .before .before .before .before .before .before .before .before .before .before .args .out)) (well-formed (now (c .before .before .before .before .before .before .before .before .before .before .before .before .before .before .before .before .before .before .before .before .args .old)) (now (c .before .before .before .before .before .before .before .before .before .before .before .before .before .before .before .before .before .before .before .before .args .listing)) (c .before .before .before .before .before .before .before .before .before .before .before .before .before .before .before .before .before .before .before .before .args .place) (now (c .before .before .before .before .before .before .before .before .before .before .before .before .before .before .before .before .before .before .before .before .args .text)) (now (c .before .before .before .before .before .before .before .before .before .before .before .before .before .before .before .before .before .before .before .before .args .source)) (now (c .before .before .before .before .before .before .before .before .before .before .before .before .before .before .before .before .before .before .before .before .args .out)) (sym (c .before .before .before .before .before .before .before .before .before .before .before .before .before .well-formed .ensures) ∙ not-false (c .before .before .before .before .before .before .before .before .before .before .before .before .before .well-formed .result) (c .before .before .before .before .before .before .before .before .before .before .before .before .if1 .left))) (sym (c .before .before .before .before .before .before .before .before .before .open-line .ensures) ∙ c .before .before .before .before .before .before .before .before .if2 .left)) (c .before .before .before .before .reread .ensures)
+returns-3 c =
+    let closed = c .before .before .before .before .before .before .before .before .before in
+    let checked = closed .before .before .before in
+    let a = checked .before .before .before .before .before .before .before .args in
+    same-edit
+    (is-closed (now (a .old)) (now (a .listing)) (a .place) (now (a .text)) (now (a .source)) (now (a .out))
+    (well-formed (now (a .old)) (now (a .listing)) (a .place) (now (a .text)) (now (a .source)) (now (a .out))
+    (sym (checked .well-formed .ensures) ∙ not-false (checked .well-formed .result) (closed .before .before .if1 .left)))
+    (sym (closed .before .open-line .ensures) ∙ closed .if2 .left))
+    (c .before .before .before .before .reread .ensures)
 
 pub check-and-reread-spec : {M : Type 1} → statement M
 check-and-reread-spec =
@@ -58,10 +94,10 @@ check-and-reread-spec =
     well-formed-requires
     refused-at-requires
     returns
-    table-requires
     open-line-requires
     refused-at-requires-2
     returns-2
+    table-requires
     reread-requires
     same-length
     same-length-2

@@ -20,25 +20,25 @@ part-leaves-open-start : tie.Need-part-leaves-open-start
 part-leaves-open-start c = search needs
 
 part-leaves-open-end : tie.Need-part-leaves-open-end
-part-leaves-open-end c = omega (arith, end-within (now (c .before .before .args .old)) (c .before .before .args .place) (begins-within (now (c .before .before .args .old)) (c .before .before .args .place) (c .before .before .pre .2)), c .before .before .pre .3)
+part-leaves-open-end c = omega (arith, end-within (now (c .before .before .args .old)) (c .before .before .args .place) (begins-within (now (c .before .before .args .old)) (c .before .before .args .place) (c .before .before .pre .1)), c .before .before .pre .2)
 
 leaves-open-requires : tie.Need-leaves-open-requires
-leaves-open-requires c κs = (omega (arith, c .leaves-open-arg .given .2, c .before .before .before .pre .0, c .before .before .before .pre .3, end-within (now (c .before .before .before .args .old)) (c .before .before .before .args .place) (begins-within (now (c .before .before .before .args .old)) (c .before .before .before .args .place) (c .before .before .before .pre .2))), c .before .before .before .pre .4)
+leaves-open-requires c κs = search needs
 
 returns : tie.Need-returns
-returns c = old-open _ _ _ (begins-within (now (c .before .before .before .before .before .args .old)) (c .before .before .before .before .before .args .place) (c .before .before .before .before .before .pre .2)) (c .before .before .before .before .before .pre .3) (c .before .leaves-open .ensures) (c .if1 .taken)
+returns c = old-open _ _ _ (begins-within (now (c .before .before .before .before .before .args .old)) (c .before .before .before .before .before .args .place) (c .before .before .before .before .before .pre .1)) (c .before .before .before .before .before .pre .2) (c .before .leaves-open .ensures) (c .if1 .taken)
 
 leaves-open-requires-2 : tie.Need-leaves-open-requires-2
 leaves-open-requires-2 c κs = search needs
 
 returns-2 : tie.Need-returns-2
-returns-2 c = new-open _ _ _ (begins-within (now (c .before .before .before .before .before .before .before .args .old)) (c .before .before .before .before .before .before .before .args .place) (c .before .before .before .before .before .before .before .pre .2)) (c .before .before .before .before .before .before .before .pre .3) (c .before .before .before .leaves-open .ensures) (c .before .before .if1 .left) (c .before .leaves-open2 .ensures) (c .if2 .taken)
+returns-2 c = new-open _ _ _ (begins-within (now (c .before .before .before .before .before .before .before .args .old)) (c .before .before .before .before .before .before .before .args .place) (c .before .before .before .before .before .before .before .pre .1)) (c .before .before .before .before .before .before .before .pre .2) (c .before .before .before .leaves-open .ensures) (c .before .before .if1 .left) (c .before .leaves-open2 .ensures) (c .if2 .taken)
 
 nearest-open-requires : tie.Need-nearest-open-requires
 nearest-open-requires c κs = search needs
 
 returns-3 : tie.Need-returns-3
-returns-3 c = near-open _ _ _ (begins-within (now (c .before .before .before .before .before .before .before .before .args .old)) (c .before .before .before .before .before .before .before .before .args .place) (c .before .before .before .before .before .before .before .before .pre .2)) (c .before .before .before .before .before .before .before .before .pre .3) (c .before .before .before .before .leaves-open .ensures) (c .before .before .before .if1 .left) (c .before .before .leaves-open2 .ensures) (c .before .if2 .left) (c .nearest-open .ensures)
+returns-3 c = near-open _ _ _ (begins-within (now (c .before .before .before .before .before .before .before .before .args .old)) (c .before .before .before .before .before .before .before .before .args .place) (c .before .before .before .before .before .before .before .before .pre .1)) (c .before .before .before .before .before .before .before .before .pre .2) (c .before .before .before .before .leaves-open .ensures) (c .before .before .before .if1 .left) (c .before .before .leaves-open2 .ensures) (c .before .if2 .left) (c .nearest-open .ensures)
 
 pub open-line-spec : {M : Type 1} → statement M
 open-line-spec =

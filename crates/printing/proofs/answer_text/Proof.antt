@@ -66,7 +66,7 @@ returns c =
     let h = rw (d, e) at (c .before .before .listing-text .ensures .0) in
     let k = rw (d, e) at (c .before .before .listing-text .ensures .1) in
     let w = said (6 * length (now (a .listing)) + 109) h (omega (arith, k, length-take n l′)) in
-    (w .1, (h, w .0))
+    (w .1, (h, (w .0, f .1 .0)))
 
 same-length-3 : tie.Need-same-length-3
 same-length-3 c = search needs
@@ -81,7 +81,7 @@ returns-2 c =
     let e = denied (now (a .source)) (now (a .listing)) (now (a .listing)) (sym (c .before .before .before .before .before .r .given .1) ∙ c .before .before .before .before .before .before .before .before .before .full-read .ensures .0) in
     let h = rw e at (c .before .before .refusal-text .ensures) in
     let w = said (6 * length (now (a .listing)) + 109) h (rw (sym e) (omega (arith, refusal-most (r .number) (r .from) (r .to) (r .first) (r .second)))) in
-    (w .1, (h, w .0))
+    (w .1, (h, (w .0, c .before .before .before .before .before .before .before .before .before .full-read .ensures .1 .0)))
 
 pub answer-text-spec : {M : Type 1} → statement M
 answer-text-spec =

@@ -21,11 +21,11 @@ use Rattle.patch.proofs.alone.leaves_open.Reads as leaves-open-reads
 use Rattle.patch.proofs.alone.line_start.Reads as line-start-reads
 
 abbrev Inv-loop : tie.InvT-loop
-Inv-loop source place table below₀ below = (beginsLine source below ≡ true)
+Inv-loop source place below₀ below = (beginsLine source below ≡ true)
     × (maybe (nearest (linesFrom [] (take below source))) false (leavesOpen operations) ≡ maybe (nearest (linesFrom [] (take place source))) false (leavesOpen operations))
 
 abbrev μ-loop : tie.MeasureT-loop
-μ-loop source place table below₀ below = below
+μ-loop source place below₀ below = below
 
 loop-holds : tie.Need-loop-holds Inv-loop μ-loop
 loop-holds c = (c .before .pre .1, refl)
@@ -49,9 +49,7 @@ is-bare-requires : tie.Need-is-bare-requires Inv-loop μ-loop
 is-bare-requires c κs = (part-long (c .before .before .before .before .before .args .source .now) (c .before .line-start .result) (c .before .before .before .loop .below - 1) _ (c .before .before .before .before .before .pre .0), c .before .line-start .ensures .2)
 
 leaves-open-requires : tie.Need-leaves-open-requires Inv-loop μ-loop
-leaves-open-requires c κs =
-    let start = c .before .before .before .before .before .before .before in
-    (part-long (start .args .source .now) (c .before .before .before .line-start .result) (c .before .before .before .before .before .loop .below - 1) _ (start .pre .0), start .pre .2)
+leaves-open-requires c κs = search needs
 
 returns : tie.Need-returns Inv-loop μ-loop
 unfolding above
