@@ -118,7 +118,10 @@ const REPNE: u8 = 47;
 fn is_repeat(operation: u8) -> bool
     ensures { λ r. ⌜ r ≡ (eqb operation rules.rep || eqb operation rules.repne) ⌝ }
 {
-    (operation == REP) | (operation == REPNE)
+    match operation {
+        REP | REPNE => true,
+        _ => false,
+    }
 }
 
 // An instruction; `rep` and `repne` take no operands and need no line end.
