@@ -16,8 +16,9 @@ use Rattle.rules.specs.Lexemes.{Kind, word, number, quoted, mark, newlin
 use Rattle.rules.specs.Records.{Record, ST, VC, VL, VI, VS, PF, IN, OR, OS, OI, OF, OD, OX, LL, LI, LD, LC, LT}
 use Rattle.rules.specs.Reader.{Refusal, at, nowhere, Answer, done, refused, Reader, Line, after, thence, _>>=_, _>>_, return, write, refuse, refusedAs, arrive, step, next, ahead, kind, passed, left, refuseHere, isMark, isLineEnd, expect}
 use Rattle.rules.specs.Expressions.{operatorOf, leftLevel, rightLevel, prefixLevel, character, atomOf, atom as atomReader, primary, infixes, expr, expression}
-use Rattle.rules.specs.Statements.{Row, rows}
+use Rattle.rules.specs.Statements.{Row}
 use Rattle.rules.specs.Grammar.{Tree, constant, name, dollar, dollars, signed, joined, recordsOf, startOf, endOf, Mark, PlusMinus, plus, minus, TimesOver, times, over, Atom, aNumber, aCharacter, aName, aDollar, twoDollars, Level, sum, product, operand, Derives, atom, parentheses, prefix, multiplied, added, oneOperand, oneProduct, loneDollar, Ends, leftOf, Begins, LineOf, OneReading}
+use Rattle.rules.proofs.TokenKinds.{mark-inside, operator-inside}
 use Rattle.rules.proofs.Append.{after-nil, after-after}
 use Rattle.rules.proofs.Progress.{Ended, AllEnded}
 use Rattle.rules.proofs.Cut.{rows-all, tokens-finished}
@@ -54,17 +55,16 @@ record Operator (p op : ℕ) (o : Lexeme) : Type 0 where
   fine : refusedAs (o .kind) ≡ none
   no-dollar : isMark "$" (o .kind) ≡ false
   no-open : isMark "(" (o .kind) ≡ false
-  inside : isLineEnd (o .kind) ≡ false
 
 plus-minus : {o : Lexeme} {op : ℕ} → PlusMinus o op → Operator 1 op o × (op < 2)
-unfolding openText operatorOf isMark isLineEnd leftLevel rightLevel refusedAs
-plus-minus (plus m) = (record { found = rw (m .marked); lefts = refl; rights = refl; fine = rw (m .marked); no-dollar = rw (m .marked); no-open = rw (m .marked); inside = rw (m .marked) }, omega arith)
-plus-minus (minus m) = (record { found = rw (m .marked); lefts = refl; rights = refl; fine = rw (m .marked); no-dollar = rw (m .marked); no-open = rw (m .marked); inside = rw (m .marked) }, omega arith)
+unfolding openText operatorOf isMark leftLevel rightLevel refusedAs
+plus-minus (plus m) = (rw (m .marked) (record { found = refl; lefts = refl; rights = refl; fine = refl; no-dollar = refl; no-open = refl }), omega arith)
+plus-minus (minus m) = (rw (m .marked) (record { found = refl; lefts = refl; rights = refl; fine = refl; no-dollar = refl; no-open = refl }), omega arith)
 
 times-over : {o : Lexeme} {op : ℕ} → TimesOver o op → Operator 3 op o
-unfolding openText operatorOf isMark isLineEnd leftLevel rightLevel refusedAs
-times-over (times m) = record { found = rw (m .marked); lefts = refl; rights = refl; fine = rw (m .marked); no-dollar = rw (m .marked); no-open = rw (m .marked); inside = rw (m .marked) }
-times-over (over m) = record { found = rw (m .marked); lefts = refl; rights = refl; fine = rw (m .marked); no-dollar = rw (m .marked); no-open = rw (m .marked); inside = rw (m .marked) }
+unfolding openText operatorOf isMark leftLevel rightLevel refusedAs
+times-over (times m) = rw (m .marked) (record { found = refl; lefts = refl; rights = refl; fine = refl; no-dollar = refl; no-open = refl })
+times-over (over m) = rw (m .marked) (record { found = refl; lefts = refl; rights = refl; fine = refl; no-dollar = refl; no-open = refl })
 
 -- LISTS OF TOKENS: where they begin and end.
 fine-append : (xs ys : List Lexeme) → Fine xs → Fine (xs ++ ys)
@@ -290,6 +290,7 @@ floor sum = 1
 floor product = 3
 floor operand = 5
 
+-- the level that a rule of the grammar asks for
 abbrev levelOf : {d : ℕ} {l : Level} {xs : List Lexeme} {a : Tree} → Derives d l xs a → Level
 levelOf {l = l} g = l
 
@@ -420,10 +421,6 @@ marked-kind a (bad n) h = absurd (false≢true h)
 as-mark : (a : Char) (x : Lexeme) → isMark a (x .kind) ≡ true → Mark a x
 as-mark a x h = record { marked = marked-kind a (x .kind) h }
 
-mark-inside : (x : Lexeme) (c : ℕ) → x .kind ≡ mark c → isLineEnd (x .kind) ≡ false
-unfolding isLineEnd
-mark-inside x c h = rw h
-
 -- an infix operator by its token
 data Which (o : Lexeme) (op : ℕ) : Type 0 where
   looser : PlusMinus o op → Which o op
@@ -444,9 +441,6 @@ which o op h = go (isMark "+" (o .kind)) (isMark "-" (o .kind)) (isMark "*" (o .
 which-operator : {o : Lexeme} {op : ℕ} → Which o op → (p : ℕ) × Operator p op o
 which-operator (looser o) = (1, plus-minus o .0)
 which-operator (tighter o) = (3, times-over o)
-
-operator-inside : (o : Lexeme) (op : ℕ) → operatorOf (o .kind) ≡ some op → isLineEnd (o .kind) ≡ false
-operator-inside o op h = which-operator (which o op h) .1 .inside
 
 sign : (o : Lexeme) (op : ℕ) → operatorOf (o .kind) ≡ some op → op < 2 → PlusMinus o op
 sign o op h i = go (which o op h) i
@@ -494,7 +488,7 @@ module _ (d l : ℕ) (x : Lexeme) where
   unfolding write endOf recordsOf loneDollar openText isMark
   second-dollar m ys y zs i j f true k =
       let n : Mark "$" y = as-mark "$" y k in
-      next-then (write (VS (x .from) (x .to))) (x .to) y zs (mark-inside y 36 (n .marked)) j (λ y′ zs′ i′ j′ f′. holds {w = VS (x .from) (x .to) ∷ []} (record {
+      next-then (write (VS (x .from) (x .to))) (x .to) y zs (mark-inside "$" (y .kind) k) j (λ y′ zs′ i′ j′ f′. holds {w = VS (x .from) (x .to) ∷ []} (record {
         xs = y ∷ [];
         split = i ∙ ap (λ (r : List Lexeme). y ∷ r) i′;
         lasts = refl;
@@ -516,7 +510,7 @@ module _ (d l : ℕ) (x : Lexeme) where
   dollar-sound : (c : ℕ) (ys : List Lexeme) → x .kind ≡ mark c → Ended x ys → (b : Bool) → eqb c 36 ≡ b
       → Post (λ w _ s. Began d x ys w s) (if_then_else_ {A = Reader Line (Unit {0})} b (next >> (kind >>= λ k. if isMark "$" k then (next >> write (VS (x .from) (x .to))) else (write (VI (x .from) (x .to))))) (refuseHere 21) (on l x ys))
   unfolding isLineEnd refuseHere kind _>>=_ thence openText
-  dollar-sound c ys q e true h = next-then _ l x ys (mark-inside x c q) e (λ y zs i j f.
+  dollar-sound c ys q e true h = next-then _ l x ys (rw q) e (λ y zs i j f.
       strip (second-dollar (record { marked = q ∙ ap mark (eqb-true c 36 h) }) ys y zs i j f (isMark "$" (y .kind)) refl))
   dollar-sound c ys q e false h = fails
 
@@ -562,7 +556,7 @@ module _ (d l : ℕ) (x : Lexeme) (ys : List Lexeme) where
   close-sound h w s q true k =
       let m : Mark ")" (s .here) = as-mark ")" (s .here) k in
       let xs : List Lexeme = q .inner .xs in
-      next-only (s .last) (s .here) (s .more) (mark-inside (s .here) 41 (m .marked)) (deeper-ended d 0 ys w s q) (λ z zs i j f. record {
+      next-only (s .last) (s .here) (s .more) (mark-inside ")" (s .here .kind) k) (deeper-ended d 0 ys w s q) (λ z zs i j f. record {
         xs = q .y ∷ (xs ++ (s .here ∷ []));
         split = q .behind ∙ ap (λ (r : List Lexeme). q .y ∷ r) (q .inner .split ∙ ap (λ (r : List Lexeme). xs ++ (s .here ∷ r)) i ∙ sym (append-assoc xs (s .here ∷ []) (z ∷ zs)));
         lasts = sym (end-last (x ∷ q .y ∷ xs) (s .here));
@@ -573,17 +567,17 @@ module _ (d l : ℕ) (x : Lexeme) (ys : List Lexeme) where
       })
 
   parens-sound : Mark "(" x → ExprSound d → Ended x ys → Post (λ w _ s. Began d x ys w s) ((next >> expr d 0 >> expect ")" 14) (on l x ys))
-  unfolding _>>_ _>>=_ expect kind thence
-  parens-sound h g e = thence-post (deeper d 0 l x ys g (mark-inside x 40 (h .marked)) e) (λ w a s q. strip (close-sound h w s q (isMark ")" (s .here .kind)) refl))
+  unfolding _>>_ _>>=_ expect kind thence isLineEnd
+  parens-sound h g e = thence-post (deeper d 0 l x ys g (rw (h .marked)) e) (λ w a s q. strip (close-sound h w s q (isMark ")" (s .here .kind)) refl))
 
   prefix-sound : (op : ℕ) → operatorOf (x .kind) ≡ some op → ExprSound d → Ended x ys → (b : Bool) → ltb op 2 ≡ b
       → Post (λ w _ s. Began d x ys w s)
       ((next >> ((if b then (expr d prefixLevel) else (refuse (nowhere 22))) >> (passed >>= λ r. write (PF (x .from) r op)))) (on l x ys))
   unfolding ExprSound _>>_ _>>=_ thence passed write after refuse recordsOf
-  prefix-sound op h g e false k = next-then _ l x ys (operator-inside x op h) e (λ y zs i j f. fails)
+  prefix-sound op h g e false k = next-then _ l x ys (operator-inside (x .kind) op h) e (λ y zs i j f. fails)
   prefix-sound op h g e true k =
       let m : PlusMinus x op = sign x op h (ltb-true op 2 k) in
-      next-then _ l x ys (operator-inside x op h) e (λ y zs i j f. thence-post (g prefixLevel (x .to) y zs j) (λ w a s q.
+      next-then _ l x ys (operator-inside (x .kind) op h) e (λ y zs i j f. thence-post (g prefixLevel (x .to) y zs j) (λ w a s q.
       let here : endOf (x ∷ y ∷ q .xs) ≡ endOf (y ∷ q .xs) = end-behind [] x (y ∷ q .xs) (passed-fine q) in
       holds {w = PF (x .from) (s .last) op ∷ []} (record {
         xs = y ∷ q .xs;
@@ -629,19 +623,6 @@ LoopSound n d p = (x : Lexeme) (xs : List Lexeme) (w : List Record) (r : Line) �
 looped-here : (d p : ℕ) (x : Lexeme) (xs : List Lexeme) (w : List Record) (r : Line) → r .last ≡ endOf (x ∷ xs) → Next (x ∷ xs) (r .here) → Gram (suc d) p (x ∷ xs) w
     → ((op : ℕ) → operatorOf (r .here .kind) ≡ some op → leftLevel op < p) → Looped d p x xs (w ++ []) r r
 looped-here d p x xs w r h f g i = record { zs = []; split = refl; lasts = rw (append-nil xs) h; reads = rw (append-nil xs, append-nil w) g; follows = rw (append-nil xs) f; stop = i }
-
-line-end-none : (k : Kind) → isLineEnd k ≡ true → operatorOf k ≡ none
-unfolding isLineEnd operatorOf isMark
-line-end-none newline h = refl
-line-end-none end h = refl
-line-end-none (mark c) h = absurd (false≢true h)
-line-end-none (word w) h = absurd (false≢true h)
-line-end-none (number v) h = absurd (false≢true h)
-line-end-none (quoted b w) h = absurd (false≢true h)
-line-end-none blank h = absurd (false≢true h)
-line-end-none comment h = absurd (false≢true h)
-line-end-none invalid h = absurd (false≢true h)
-line-end-none (bad n) h = absurd (false≢true h)
 
 last-one : (x : Lexeme) (ys : List Lexeme) → length ys ≤ 0 → Ended x ys → isLineEnd (x .kind) ≡ true
 last-one x [] h e = e
@@ -692,7 +673,7 @@ module _ (n d p : ℕ) (g : ExprSound d) (again : LoopSound n d p) (x : Lexeme) 
   unfolding return Turn ExprSound _>>_ _>>=_
   turned op a true h = holds (looped-here d p x xs w r l f m (λ op′ u. rw (some-inj (sym u ∙ a)) (ltb-true (leftLevel op) p h)))
   turned op a false h =
-      next-then _ (r .last) (r .here) (r .more) (operator-inside (r .here) op a) e (λ y zs j k _. thence-post (g (rightLevel op) (r .here .to) y zs k)
+      next-then _ (r .last) (r .here) (r .more) (operator-inside (r .here .kind) op a) e (λ y zs j k _. thence-post (g (rightLevel op) (r .here .to) y zs k)
       (λ v _ s q. round n d p again x xs w r i op a (ltb-false (leftLevel op) p h) (o op a) y zs j k v s q))
 
   looked : (q : Option ℕ) → operatorOf (r .here .kind) ≡ q
@@ -704,7 +685,7 @@ module _ (n d p : ℕ) (g : ExprSound d) (again : LoopSound n d p) (x : Lexeme) 
 loop-sound : (n d p : ℕ) → ExprSound d → LoopSound n d p
 unfolding LoopSound infixes return kind _>>=_ thence Turn
 loop-sound zero d p g x xs w r i e h f m o =
-    holds (looped-here d p x xs w r h f m (λ op u. absurd (no-operator op (sym (line-end-none (r .here .kind) (last-one (r .here) (r .more) i e)) ∙ u))))
+    holds (looped-here d p x xs w r h f m (λ op u. absurd (true≢false (sym (last-one (r .here) (r .more) i e) ∙ operator-inside (r .here .kind) op u))))
 loop-sound (suc n) d p g x xs w r i e h f m o = strip (looked n d p g (loop-sound n d p g) x xs w r i e h f m o (operatorOf (r .here .kind)) refl)
 
 -- what the reader passes is an expression of its level, listed as the reader wrote it, and no operator of its level is behind
@@ -773,6 +754,7 @@ same-tree a b h =
     let i : a ∷ [] ≡ b ∷ [] = sym (stack-tree a []) ∙ ap (λ (w : List Record). stack w []) h ∙ stack-tree b [] in
     cc
 
+-- a derivation goes through at any greater depth, and as a sum
 nested : {d : ℕ} {l : Level} {xs : List Lexeme} {a : Tree} → Derives d l xs a → Derives (suc d) l xs a
 nested (atom h) = atom h
 nested (parentheses m g n) = parentheses m (nested g) n
