@@ -1,65 +1,145 @@
--- The grammar of expressions by levels, and: the reader reads what the grammar has.
-use mathlib.Core.Path.{_≡_, refl, sym, ap, _∙_}
+-- The reader of expressions passes what the grammar derives, and nothing else, and no tokens have two trees: `one-reading`.
+use mathlib.Core.Path.{_≡_, refl, sym, ap, ap₂, subst₂, _∙_}
 use mathlib.Core.Bool.{Bool, true, false, true≢false, false≢true}
 use mathlib.Core.List.{List, [], _∷_, _++_, append-assoc, append-nil}
 use mathlib.Core.Option.{Option, none, some}
-use Prim.Native.Nat.{ℕ, zero, suc, _+_, _≤_, _<_, suc-le-suc}
+use Prim.Native.Nat.{ℕ, zero, suc, _+_, _≤_, _<_}
+use Prim.Native.Char.{Char, code}
+use Prim.Native.String.{String}
 use native.Mathlib.Omega.{arith}
-use native.Mathlib.Nat.{le-refl, le-trans, le-of-eq, not-suc-le-zero}
+use native.Mathlib.Nat.{le-refl, le-trans, not-suc-le-zero, add-suc, add-zero, add-comm}
 use lib.Dec.{ltb, eqb}
 use lib.ListN.{length, length-append}
 use borrow.Author.Tests.{lt-ltb, le-ltb, eqb-true, ltb-true, ltb-false}
-use Rattle.lexer.specs.Text.{if_then_else_, maybe, is, openText}
-use Rattle.rules.specs.Lexemes.{Kind, word, number, quoted, mark, newline, blank, comment, invalid, end, bad, Lexeme}
-use Rattle.rules.specs.Records.{Record, VC, VL, VI, VS, PF, IN}
+use Rattle.lexer.specs.Text.{if_then_else_, maybe, is, bytes, openText}
+use Rattle.rules.specs.Lexemes.{Kind, word, number, quoted, mark, newline, blank, comment, invalid, end, bad, Lexeme, tokensFrom, tokens, openLexemes}
+use Rattle.rules.specs.Records.{Record, ST, VC, VL, VI, VS, PF, IN, OR, OS, OI, OF, OD, OX, LL, LI, LD, LC, LT}
 use Rattle.rules.specs.Reader.{Refusal, at, nowhere, Answer, done, refused, Reader, Line, after, thence, _>>=_, _>>_, return, write, refuse, refusedAs, arrive, step, next, ahead, kind, passed, left, refuseHere, isMark, isLineEnd, expect}
+use Rattle.rules.specs.Expressions.{operatorOf, leftLevel, rightLevel, prefixLevel, character, atomOf, atom as atomReader, primary, infixes, expr, expression}
+use Rattle.rules.specs.Statements.{Row}
+use Rattle.rules.specs.Grammar.{Tree, constant, name, dollar, dollars, signed, joined, recordsOf, startOf, endOf, Mark, PlusMinus, plus, minus, TimesOver, times, over, Atom, aNumber, aCharacter, aName, aDollar, twoDollars, Level, sum, product, operand, Derives, atom, parentheses, prefix, multiplied, added, oneOperand, oneProduct, loneDollar, Ends, leftOf, Begins, LineOf, OneReading}
+use Rattle.rules.proofs.TokenKinds.{mark-inside, operator-inside}
 use Rattle.rules.proofs.Append.{after-nil, after-after}
-use Rattle.rules.specs.Expressions.{operatorOf, leftLevel, rightLevel, prefixLevel, character, atomOf, atom, primary, infixes, expr}
+use Rattle.rules.proofs.Progress.{Ended, AllEnded}
+use Rattle.rules.proofs.Cut.{rows-all, tokens-finished}
 
-abbrev pub tok : ℕ → ℕ → Kind → Lexeme
-tok f t k = record { from = f; to = t; kind = k }
-
-unfoldable pub final : Lexeme → List Lexeme → Lexeme
-final x [] = x
-final x (y ∷ ys) = final y ys
-
--- `Gram d p x xs w`: the tokens x ∷ xs are an expression whose operators, outside parentheses, have a level of at least p, at most d deep. It is listed as w.
-pub data Gram : ℕ → ℕ → Lexeme → List Lexeme → List Record → Type 0 where
-  value : {d p f t v : ℕ} → Gram (suc d) p (tok f t (number v)) [] (VC f t v ∷ [])
-  letter : {d p f t c : ℕ} → Gram (suc d) p (tok f t (quoted true (c ∷ []))) [] (VC f t c ∷ [])
-  name : {d p f t : ℕ} {s : List ℕ} → Gram (suc d) p (tok f t (word s)) [] (VL f t ∷ [])
-  place : {d p f t : ℕ} → Gram (suc d) p (tok f t (mark 36)) [] (VI f t ∷ [])
-  section : {d p f t f′ t′ : ℕ} → Gram (suc d) p (tok f t (mark 36)) (tok f′ t′ (mark 36) ∷ []) (VS f t ∷ [])
-  parens : {d p f t : ℕ} (f′ t′ : ℕ) {x : Lexeme} {xs : List Lexeme} {w : List Record}
-      → Gram d 0 x xs w → Gram (suc d) p (tok f t (mark 40)) (x ∷ (xs ++ (tok f′ t′ (mark 41) ∷ []))) w
-  prefix : {d p f t c op : ℕ} {x : Lexeme} {xs : List Lexeme} {w : List Record} → operatorOf (mark c) ≡ some op → op < 2
-      → Gram d prefixLevel x xs w → Gram (suc d) p (tok f t (mark c)) (x ∷ xs) (w ++ (PF f (final x xs .to) op ∷ []))
-  infix′ : {d p op : ℕ} (f t c : ℕ) {x y : Lexeme} {xs ys : List Lexeme} {w v : List Record} → operatorOf (mark c) ≡ some op → p ≤ leftLevel op
-      → Gram (suc d) (leftLevel op) x xs w → Gram d (rightLevel op) y ys v
-      → Gram (suc d) p x (xs ++ (tok f t (mark c) ∷ y ∷ ys)) (w ++ (v ++ (IN (x .from) (final y ys .to) op ∷ [])))
+abbrev tok : Lexeme → Kind → Lexeme
+tok x k = record { from = x .from; to = x .to; kind = k }
 
 abbrev on : ℕ → Lexeme → List Lexeme → Line
 on l x xs = record { last = l; here = x; more = xs }
 
--- what may stand behind
-pub record Behind (z : Lexeme) : Type 0 where
-  pub fine : refusedAs (z .kind) ≡ none
-  pub no-dollar : isMark "$" (z .kind) ≡ false
+abbrev endAt : ℕ → Line
+endAt p = on p (record { from = p; to = p; kind = newline }) []
 
-first-fine : {d p : ℕ} {x : Lexeme} {xs : List Lexeme} {w : List Record} → Gram d p x xs w → refusedAs (x .kind) ≡ none
+-- the line that has these tokens left
+abbrev lineAt : ℕ → List Lexeme → Line
+lineAt l [] = endAt l
+lineAt l (x ∷ xs) = on l x xs
+
+-- there is a first token, and it is not refused when it is read
+abbrev Fine : List Lexeme → Type 0
+Fine [] = ⊥
+Fine (x ∷ xs) = refusedAs (x .kind) ≡ none
+
+-- what may stand behind xs, operators too
+record Next (xs : List Lexeme) (z : Lexeme) : Type 0 where
+  fine : refusedAs (z .kind) ≡ none
+  no-dollar : loneDollar false xs ≡ true → isMark "$" (z .kind) ≡ false
+
+-- what the reader asks of an infix operator with the left level p
+record Operator (p op : ℕ) (o : Lexeme) : Type 0 where
+  found : operatorOf (o .kind) ≡ some op
+  lefts : leftLevel op ≡ p
+  rights : rightLevel op ≡ suc p
+  fine : refusedAs (o .kind) ≡ none
+  no-dollar : isMark "$" (o .kind) ≡ false
+  no-open : isMark "(" (o .kind) ≡ false
+
+plus-minus : {o : Lexeme} {op : ℕ} → PlusMinus o op → Operator 1 op o × (op < 2)
+unfolding openText operatorOf isMark leftLevel rightLevel refusedAs
+plus-minus (plus m) = (rw (m .marked) (record { found = refl; lefts = refl; rights = refl; fine = refl; no-dollar = refl; no-open = refl }), omega arith)
+plus-minus (minus m) = (rw (m .marked) (record { found = refl; lefts = refl; rights = refl; fine = refl; no-dollar = refl; no-open = refl }), omega arith)
+
+times-over : {o : Lexeme} {op : ℕ} → TimesOver o op → Operator 3 op o
+unfolding openText operatorOf isMark leftLevel rightLevel refusedAs
+times-over (times m) = rw (m .marked) (record { found = refl; lefts = refl; rights = refl; fine = refl; no-dollar = refl; no-open = refl })
+times-over (over m) = rw (m .marked) (record { found = refl; lefts = refl; rights = refl; fine = refl; no-dollar = refl; no-open = refl })
+
+-- LISTS OF TOKENS: where they begin and end.
+fine-append : (xs ys : List Lexeme) → Fine xs → Fine (xs ++ ys)
+fine-append [] ys h = absurd h
+fine-append (x ∷ xs) ys h = h
+
+start-append : (xs ys : List Lexeme) → Fine xs → startOf (xs ++ ys) ≡ startOf xs
+unfolding startOf
+start-append [] ys h = absurd h
+start-append (x ∷ xs) ys h = refl
+
+start-here : (l : ℕ) (xs ys : List Lexeme) → Fine xs → lineAt l (xs ++ ys) .here .from ≡ startOf xs
+unfolding startOf
+start-here l [] ys h = absurd h
+start-here l (x ∷ xs) ys h = refl
+
+end-behind : (xs : List Lexeme) (o : Lexeme) (ys : List Lexeme) → Fine ys → endOf (xs ++ (o ∷ ys)) ≡ endOf ys
+unfolding endOf
+end-behind xs o [] h = absurd h
+end-behind [] o (y ∷ ys) h = refl
+end-behind (x ∷ []) o (y ∷ ys) h = refl
+end-behind (x ∷ x′ ∷ xs) o (y ∷ ys) h = end-behind (x′ ∷ xs) o (y ∷ ys) h
+
+end-last : (xs : List Lexeme) (y : Lexeme) → endOf (xs ++ (y ∷ [])) ≡ y .to
+unfolding endOf
+end-last [] y = refl
+end-last (x ∷ []) y = refl
+end-last (x ∷ x′ ∷ xs) y = end-last (x′ ∷ xs) y
+
+lone-behind : (b : Bool) (xs : List Lexeme) (o : Lexeme) (ys : List Lexeme) → isMark "$" (o .kind) ≡ false → loneDollar b (xs ++ (o ∷ ys)) ≡ loneDollar false ys
+unfolding loneDollar
+lone-behind true [] o ys h = refl
+lone-behind false [] o ys h = ap (λ (b : Bool). loneDollar b ys) h
+lone-behind b (x ∷ xs) o ys h = lone-behind _ xs o ys h
+
+next-behind : (xs : List Lexeme) (o : Lexeme) (ys : List Lexeme) (z : Lexeme) → isMark "$" (o .kind) ≡ false → Next (xs ++ (o ∷ ys)) z → Next ys z
+next-behind xs o ys z h n = record { fine = n .fine; no-dollar = λ i. n .no-dollar (lone-behind false xs o ys h ∙ i) }
+
+behind-next : (xs : List Lexeme) (o : Lexeme) (ys : List Lexeme) (z : Lexeme) → isMark "$" (o .kind) ≡ false → Next ys z → Next (xs ++ (o ∷ ys)) z
+behind-next xs o ys z h n = record { fine = n .fine; no-dollar = λ i. n .no-dollar (sym (lone-behind false xs o ys h) ∙ i) }
+
+close-dollar : (y : Lexeme) → Mark ")" y → isMark "$" (y .kind) ≡ false
+unfolding openText isMark
+close-dollar y m = rw (m .marked)
+
+close-next : (xs : List Lexeme) (y : Lexeme) → Mark ")" y → Next xs y
 unfolding refusedAs
-first-fine value = refl
-first-fine letter = refl
-first-fine name = refl
-first-fine place = refl
-first-fine section = refl
-first-fine (parens f t g) = refl
-first-fine (prefix h i g) = refl
-first-fine (infix′ f t c h i g g′) = first-fine g
+close-next xs y m = record { fine = rw (m .marked); no-dollar = λ _. close-dollar y m }
 
-next-step : (l : ℕ) (x y : Lexeme) (ys : List Lexeme) → refusedAs (y .kind) ≡ none → next (on l x (y ∷ ys)) ≡ done [] tt (on (x .to) y ys)
+operator-next : {p op : ℕ} {o : Lexeme} (xs : List Lexeme) → Operator p op o → Next xs o
+operator-next xs o = record { fine = o .fine; no-dollar = λ _. o .no-dollar }
+
+atom-fine : {xs : List Lexeme} {a : Tree} → Atom xs a → Fine xs
+unfolding refusedAs
+atom-fine (aNumber h) = rw h
+atom-fine (aCharacter h) = rw h
+atom-fine (aName h) = rw h
+atom-fine (aDollar m) = rw (m .marked)
+atom-fine (twoDollars m n) = rw (m .marked)
+
+first-fine : {d : ℕ} {l : Level} {xs : List Lexeme} {a : Tree} → Derives d l xs a → Fine xs
+unfolding refusedAs
+first-fine (atom h) = atom-fine h
+first-fine (parentheses m g n) = rw (m .marked)
+first-fine (prefix o g) = plus-minus o .0 .fine
+first-fine (multiplied {xs = xs} g o g′) = fine-append xs _ (first-fine g)
+first-fine (added {xs = xs} g o g′) = fine-append xs _ (first-fine g)
+first-fine (oneOperand g) = first-fine g
+first-fine (oneProduct g) = first-fine g
+
+-- COMPLETENESS.
+next-step : (l : ℕ) (x : Lexeme) (ys : List Lexeme) → Fine ys → next (on l x ys) ≡ done [] tt (lineAt (x .to) ys)
 unfolding next step arrive
-next-step l x y ys h = rw h
+next-step l x [] h = absurd h
+next-step l x (y ∷ ys) h = rw h
 
 after-done : (w : List Record) (s : Line) → _≡_ {A = Answer Line (Unit {0})} (after w (done [] tt s)) (done w tt s)
 unfolding after
@@ -69,15 +149,15 @@ abbrev Body : ℕ → ℕ → ℕ → Reader Line (Unit {0})
 Body d level f = primary (expr d) >> (left >>= λ n. infixes n (expr d) level f)
 
 -- After the tokens of an expression the loop over infix operators goes on at the token behind.
-abbrev Goes : ℕ → ℕ → Lexeme → List Lexeme → List Record → Type 0
-Goes zero p x xs w = ⊥
-Goes (suc d) p x xs w = (level l : ℕ) (z : Lexeme) (rest : List Lexeme) → level ≤ p → Behind z → ((op : ℕ) → operatorOf (z .kind) ≡ some op → leftLevel op ≤ p)
-    → (n : ℕ) × (length rest ≤ n) × (Body d level (x .from) (on l x (xs ++ (z ∷ rest))) ≡ after w (infixes n (expr d) level (x .from) (on (final x xs .to) z rest)))
+abbrev Goes : ℕ → ℕ → List Lexeme → List Record → Type 0
+Goes zero p xs w = ⊥
+Goes (suc d) p xs w = (level l : ℕ) (z : Lexeme) (rest : List Lexeme) → level ≤ p → Next xs z → ((op : ℕ) → operatorOf (z .kind) ≡ some op → leftLevel op ≤ p)
+    → (n : ℕ) × (length rest ≤ n) × (Body d level (startOf xs) (lineAt l (xs ++ (z ∷ rest))) ≡ after w (infixes n (expr d) level (startOf xs) (on (endOf xs) z rest)))
 
 -- The reader reads the tokens of an expression, and no more, where what is behind is no operator of its level.
-abbrev pub Done : ℕ → ℕ → Lexeme → List Lexeme → List Record → Type 0
-Done d p x xs w = (l : ℕ) (z : Lexeme) (rest : List Lexeme) → Behind z → ((op : ℕ) → operatorOf (z .kind) ≡ some op → leftLevel op < p)
-    → expr d p (on l x (xs ++ (z ∷ rest))) ≡ done w tt (on (final x xs .to) z rest)
+abbrev Done : ℕ → ℕ → List Lexeme → List Record → Type 0
+Done d p xs w = (l : ℕ) (z : Lexeme) (rest : List Lexeme) → Next xs z → ((op : ℕ) → operatorOf (z .kind) ≡ some op → leftLevel op < p)
+    → expr d p (lineAt l (xs ++ (z ∷ rest))) ≡ done w tt (on (endOf xs) z rest)
 
 -- the loop stops
 stops : (n : ℕ) (inner : ℕ → Reader Line (Unit {0})) (p f : ℕ) (s : Line) → ((op : ℕ) → operatorOf (s .here .kind) ≡ some op → leftLevel op < p)
@@ -92,93 +172,42 @@ stops (suc n) inner p f s h = go (operatorOf (s .here .kind)) h
     go (some op) i = rw (lt-ltb (leftLevel op) p (i op refl))
 
 -- the loop takes an operator and its right side
-turn : (n : ℕ) (inner : ℕ → Reader Line (Unit {0})) (level f op : ℕ) (o : Lexeme) (l : ℕ) (y : Lexeme) (ys : List Lexeme) (v : List Record) (s : Line)
-    → operatorOf (o .kind) ≡ some op → level ≤ leftLevel op → refusedAs (y .kind) ≡ none → inner (rightLevel op) (on (o .to) y ys) ≡ done v tt s
-    → infixes (suc n) inner level f (on l o (y ∷ ys)) ≡ after (v ++ (IN f (s .last) op ∷ [])) (infixes n inner level f s)
+turn : (n : ℕ) (inner : ℕ → Reader Line (Unit {0})) (level f op : ℕ) (o : Lexeme) (l : ℕ) (ys : List Lexeme) (v : List Record) (s : Line)
+    → operatorOf (o .kind) ≡ some op → level ≤ leftLevel op → Fine ys → inner (rightLevel op) (lineAt (o .to) ys) ≡ done v tt s
+    → infixes (suc n) inner level f (on l o ys) ≡ after (v ++ (IN f (s .last) op ∷ [])) (infixes n inner level f s)
 unfolding infixes _>>=_ _>>_ thence kind passed write
-turn n inner level f op o l y ys v s h i j k = rw (h, le-ltb (leftLevel op) level i, next-step l o y ys j, k) (simp (after-nil, after-after))
+turn n inner level f op o l ys v s h i j k = rw (h, le-ltb (leftLevel op) level i, next-step l o ys j, k) (simp (after-nil, after-after))
 
 -- what begins an expression is read whole: the loop begins
-unit : (d p : ℕ) (x : Lexeme) (xs : List Lexeme) (w : List Record)
-    → ((l : ℕ) (z : Lexeme) (rest : List Lexeme) → Behind z → primary (expr d) (on l x (xs ++ (z ∷ rest))) ≡ done w tt (on (final x xs .to) z rest)) → Goes (suc d) p x xs w
+unit : (d p : ℕ) (xs : List Lexeme) (w : List Record)
+    → ((l : ℕ) (z : Lexeme) (rest : List Lexeme) → Next xs z → primary (expr d) (lineAt l (xs ++ (z ∷ rest))) ≡ done w tt (on (endOf xs) z rest)) → Goes (suc d) p xs w
 unfolding _>>=_ _>>_ thence left
-unit d p x xs w h level l z rest i b c = (length rest, le-refl (length rest), rw (h l z rest b, after-nil (infixes (length rest) (expr d) level (x .from) (on (final x xs .to) z rest))))
+unit d p xs w h level l z rest i b c = (length rest, le-refl (length rest), rw (h l z rest b, after-nil (infixes (length rest) (expr d) level (startOf xs) (on (endOf xs) z rest))))
 
-finish-one : (d p : ℕ) (x : Lexeme) (xs : List Lexeme) (w : List Record) → Goes (suc d) p x xs w → Done (suc d) p x xs w
+-- at a lower level too
+lower : (d p q : ℕ) (xs : List Lexeme) (w : List Record) → q ≤ p → Goes d p xs w → Goes d q xs w
+lower zero p q xs w h g = g
+lower (suc d) p q xs w h g = λ level l z rest i b c. g level l z rest (le-trans i h) b (λ op j. le-trans (c op j) h)
+
+finish-one : (d p : ℕ) (xs : List Lexeme) (w : List Record) → Fine xs → Goes (suc d) p xs w → Done (suc d) p xs w
 unfolding expr ahead _>>=_ thence
-finish-one d p x xs w g l z rest b c =
+finish-one d p xs w f g l z rest b c =
     let (n, i, h) = g p l z rest (le-refl p) b (λ op j. let k : leftLevel op < p = c op j in omega arith) in
-    rw (after-nil (Body d p (x .from) (on l x (xs ++ (z ∷ rest)))), h, stops n (expr d) p (x .from) (on (final x xs .to) z rest) c) (after-done w (on (final x xs .to) z rest))
+    rw (start-here l xs (z ∷ rest) f, after-nil (Body d p (startOf xs) (lineAt l (xs ++ (z ∷ rest)))), h, stops n (expr d) p (startOf xs) (on (endOf xs) z rest) c) (after-done w (on (endOf xs) z rest))
 
-finish : (d p : ℕ) (x : Lexeme) (xs : List Lexeme) (w : List Record) → Goes d p x xs w → Done d p x xs w
-finish zero p x xs w g = absurd g
-finish (suc d) p x xs w g = finish-one d p x xs w g
+finish : (d p : ℕ) (xs : List Lexeme) (w : List Record) → Fine xs → Goes d p xs w → Done d p xs w
+finish zero p xs w f g = absurd g
+finish (suc d) p xs w f g = finish-one d p xs w f g
 
 no-operator : (op : ℕ) → _≡_ {A = Option ℕ} none (some op) → ⊥
 no-operator op h = true≢false cc
 
-close-none : operatorOf (mark 41) ≡ none
-unfolding operatorOf isMark openText
-close-none = refl
+some-inj : {a b : ℕ} → _≡_ {A = Option ℕ} (some a) (some b) → a ≡ b
+some-inj h = cc
 
-open-none : operatorOf (mark 40) ≡ none
-unfolding operatorOf isMark openText
-open-none = refl
-
-dollar-none : operatorOf (mark 36) ≡ none
-unfolding operatorOf isMark openText
-dollar-none = refl
-
-no-mark : (n c op : ℕ) → operatorOf (mark n) ≡ none → operatorOf (mark c) ≡ some op → eqb c n ≡ false
-no-mark n c op g h = go (eqb c n) refl
-  where
-    go : (e : Bool) → eqb c n ≡ e → e ≡ false
-    go false i = refl
-    go true i =
-        let j : c ≡ n = eqb-true c n i in
-        let k : _≡_ {A = Option ℕ} none (some op) = sym g ∙ ap (λ (n : ℕ). operatorOf (mark n)) (sym j) ∙ h in
-        absurd (no-operator op k)
-
-no-open : (c op : ℕ) → operatorOf (mark c) ≡ some op → isMark "(" (mark c) ≡ false
-unfolding isMark is
-no-open c op h = no-mark 40 c op open-none h
-
-module _ (d l : ℕ) (z : Lexeme) (rest : List Lexeme) (b : Behind z) (f t : ℕ) where
-  value-read : (v : ℕ) → primary (expr d) (on l (tok f t (number v)) (z ∷ rest)) ≡ done (VC f t v ∷ []) tt (on t z rest)
-  unfolding primary atom atomOf operatorOf isMark ahead _>>=_ _>>_ thence after write
-  value-read v = rw (next-step l (tok f t (number v)) z rest (b .fine))
-
-  letter-read : (c : ℕ) → primary (expr d) (on l (tok f t (quoted true (c ∷ []))) (z ∷ rest)) ≡ done (VC f t c ∷ []) tt (on t z rest)
-  unfolding primary atom atomOf character operatorOf isMark ahead _>>=_ _>>_ thence after write
-  letter-read c = rw (next-step l (tok f t (quoted true (c ∷ []))) z rest (b .fine))
-
-  name-read : (s : List ℕ) → primary (expr d) (on l (tok f t (word s)) (z ∷ rest)) ≡ done (VL f t ∷ []) tt (on t z rest)
-  unfolding primary atom atomOf operatorOf isMark ahead _>>=_ _>>_ thence after write
-  name-read s = rw (next-step l (tok f t (word s)) z rest (b .fine))
-
-  place-read : primary (expr d) (on l (tok f t (mark 36)) (z ∷ rest)) ≡ done (VI f t ∷ []) tt (on t z rest)
-  unfolding openText primary atom atomOf operatorOf isMark ahead kind _>>=_ _>>_ thence after write
-  place-read = rw (next-step l (tok f t (mark 36)) z rest (b .fine)) (rw (b .no-dollar))
-
-  section-read : (f′ t′ : ℕ) → primary (expr d) (on l (tok f t (mark 36)) (tok f′ t′ (mark 36) ∷ z ∷ rest)) ≡ done (VS f t ∷ []) tt (on t′ z rest)
-  unfolding openText primary atom atomOf operatorOf isMark ahead kind _>>=_ _>>_ thence after write refusedAs
-  section-read f′ t′ = rw (next-step l (tok f t (mark 36)) (tok f′ t′ (mark 36)) (z ∷ rest) refl, next-step t (tok f′ t′ (mark 36)) z rest (b .fine))
-
-  parens-read : (f′ t′ : ℕ) (x : Lexeme) (xs : List Lexeme) (w : List Record) → refusedAs (x .kind) ≡ none → Done d 0 x xs w
-      → primary (expr d) (on l (tok f t (mark 40)) (x ∷ (xs ++ (tok f′ t′ (mark 41) ∷ z ∷ rest)))) ≡ done w tt (on t′ z rest)
-  unfolding openText primary isMark ahead kind expect _>>=_ _>>_ thence refusedAs after
-  parens-read f′ t′ x xs w h g = rw (
-    next-step l (tok f t (mark 40)) x (xs ++ (tok f′ t′ (mark 41) ∷ z ∷ rest)) h,
-    g t (tok f′ t′ (mark 41)) (z ∷ rest) (record { fine = refl; no-dollar = refl }) (λ op j. absurd (no-operator op (sym close-none ∙ j))),
-    next-step (final x xs .to) (tok f′ t′ (mark 41)) z rest (b .fine),
-    append-nil w,
-  )
-
-  prefix-read : (c op : ℕ) (x : Lexeme) (xs : List Lexeme) (w : List Record) → operatorOf (mark c) ≡ some op → op < 2 → refusedAs (x .kind) ≡ none → Done d prefixLevel x xs w
-      → ((op : ℕ) → operatorOf (z .kind) ≡ some op → leftLevel op < prefixLevel)
-      → primary (expr d) (on l (tok f t (mark c)) (x ∷ (xs ++ (z ∷ rest)))) ≡ done (w ++ (PF f (final x xs .to) op ∷ [])) tt (on (final x xs .to) z rest)
-  unfolding primary ahead passed write _>>=_ _>>_ thence after
-  prefix-read c op x xs w h i j g e = rw (no-open c op h, h, next-step l (tok f t (mark c)) x (xs ++ (z ∷ rest)) j, lt-ltb op 2 i, g t z rest b e)
+close-none : (y : Lexeme) → Mark ")" y → operatorOf (y .kind) ≡ none
+unfolding openText operatorOf isMark
+close-none y m = rw (m .marked)
 
 -- no operator binds as tight as a prefix
 loose : (op : ℕ) → leftLevel op < prefixLevel
@@ -189,98 +218,135 @@ loose op = go (ltb op 2)
     go true = omega arith
     go false = omega arith
 
-left-right : (op : ℕ) → leftLevel op < rightLevel op
-unfolding leftLevel rightLevel
-left-right op = go (ltb op 2)
-  where
-    go : (c : Bool) → (if c then 1 else 3) < (if c then 2 else 4)
-    go true = omega arith
-    go false = omega arith
+prefix-level : prefixLevel ≡ 5
+unfolding prefixLevel
+prefix-level = refl
 
-final-append : (x : Lexeme) (xs : List Lexeme) (y : Lexeme) (ys : List Lexeme) → final x (xs ++ (y ∷ ys)) ≡ final y ys
-unfolding final
-final-append x [] y ys = refl
-final-append x (z ∷ xs) y ys = final-append z xs y ys
+module _ (d l : ℕ) (z : Lexeme) (rest : List Lexeme) where
+  atom-read : {xs : List Lexeme} {a : Tree} → Atom xs a → Next xs z → primary (expr d) (lineAt l (xs ++ (z ∷ rest))) ≡ done (recordsOf a) tt (on (endOf xs) z rest)
+  unfolding openText primary atomReader atomOf character operatorOf isMark refusedAs ahead kind _>>=_ _>>_ thence after write endOf recordsOf loneDollar next step
+  atom-read (aNumber {x} h) b = rw (h, next-step l x (z ∷ rest) (b .fine))
+  atom-read (aCharacter {x} h) b = rw (h, next-step l x (z ∷ rest) (b .fine))
+  atom-read (aName {x} h) b = rw (h, next-step l x (z ∷ rest) (b .fine))
+  atom-read (aDollar {x} m) b = rw (m .marked, next-step l x (z ∷ rest) (b .fine)) (rw (b .no-dollar (rw (m .marked))))
+  atom-read (twoDollars {x} {y} m n) b = rw (m .marked, next-step l x (y ∷ z ∷ rest) (rw (n .marked))) (rw (n .marked, next-step (x .to) y (z ∷ rest) (b .fine)))
 
-final-two : (o y : Lexeme) (ys : List Lexeme) → final o (y ∷ ys) ≡ final y ys
-unfolding final
-final-two o y ys = refl
+  parens-read : (x y : Lexeme) (xs : List Lexeme) (w : List Record) → Mark "(" x → Mark ")" y → refusedAs (z .kind) ≡ none → Fine xs → Done d 0 xs w
+      → primary (expr d) (on l x (xs ++ (y ∷ z ∷ rest))) ≡ done w tt (on (y .to) z rest)
+  unfolding openText primary isMark ahead kind expect _>>=_ _>>_ thence after
+  parens-read x y xs w m n b f g = rw (
+    m .marked,
+    next-step l (tok x (mark 40)) (xs ++ (y ∷ z ∷ rest)) (fine-append xs _ f),
+    g (x .to) y (z ∷ rest) (close-next xs y n) (λ op j. absurd (no-operator op (sym (close-none y n) ∙ j))),
+  )
+      (rw (n .marked, next-step (endOf xs) (tok y (mark 41)) (z ∷ rest) b, append-nil w))
 
-some-inj : {a b : ℕ} → _≡_ {A = Option ℕ} (some a) (some b) → a ≡ b
-some-inj h = cc
-
-operator-behind : (f t c op : ℕ) → operatorOf (mark c) ≡ some op → Behind (tok f t (mark c))
-unfolding isMark is refusedAs
-operator-behind f t c op h = record { fine = refl; no-dollar = no-mark 36 c op dollar-none h }
+  prefix-read : (x : Lexeme) (op : ℕ) (xs : List Lexeme) (w : List Record) → Operator 1 op x → op < 2 → Next (x ∷ xs) z → Fine xs → Done d prefixLevel xs w
+      → primary (expr d) (on l x (xs ++ (z ∷ rest))) ≡ done (w ++ (PF (x .from) (endOf xs) op ∷ [])) tt (on (endOf xs) z rest)
+  unfolding primary ahead passed write _>>=_ _>>_ thence after
+  prefix-read x op xs w o i b f g = rw (
+    o .no-open,
+    o .found,
+    next-step l x (xs ++ (z ∷ rest)) (fine-append xs _ f),
+    lt-ltb op 2 i,
+    g (x .to) z rest (next-behind [] x xs z (o .no-dollar) b) (λ q _. loose q),
+  )
 
 -- the loop after a left operand, an operator and a right operand
-join : (d p level l : ℕ) (x o y z : Lexeme) (xs ys rest : List Lexeme) (op : ℕ) (w v : List Record) (n : ℕ)
-    → operatorOf (o .kind) ≡ some op → level ≤ leftLevel op → refusedAs (y .kind) ≡ none
-    → length (y ∷ (ys ++ (z ∷ rest))) ≤ n
-    → Body d level (x .from) (on l x (xs ++ (o ∷ y ∷ (ys ++ (z ∷ rest))))) ≡ after w (infixes n (expr d) level (x .from) (on (final x xs .to) o (y ∷ (ys ++ (z ∷ rest)))))
-    → expr d (rightLevel op) (on (o .to) y (ys ++ (z ∷ rest))) ≡ done v tt (on (final y ys .to) z rest)
-    → (n : ℕ) × (length rest ≤ n) × (Body d level (x .from) (on l x ((xs ++ (o ∷ y ∷ ys)) ++ (z ∷ rest)))
-    ≡ after (w ++ (v ++ (IN (x .from) (final y ys .to) op ∷ []))) (infixes n (expr d) level (x .from) (on (final x (xs ++ (o ∷ y ∷ ys)) .to) z rest)))
-join d p level l x o y z xs ys rest op w v zero h i j k e r = absurd (not-suc-le-zero k)
-join d p level l x o y z xs ys rest op w v (suc n) h i j k e r = (
+join : (d level l op : ℕ) (o z : Lexeme) (xs ys rest : List Lexeme) (w v : List Record) (n : ℕ)
+    → operatorOf (o .kind) ≡ some op → level ≤ leftLevel op → Fine xs → Fine ys
+    → length (ys ++ (z ∷ rest)) ≤ n
+    → Body d level (startOf xs) (lineAt l (xs ++ (o ∷ (ys ++ (z ∷ rest))))) ≡ after w (infixes n (expr d) level (startOf xs) (on (endOf xs) o (ys ++ (z ∷ rest))))
+    → expr d (rightLevel op) (lineAt (o .to) (ys ++ (z ∷ rest))) ≡ done v tt (on (endOf ys) z rest)
+    → (n : ℕ) × (length rest ≤ n) × (Body d level (startOf (xs ++ (o ∷ ys))) (lineAt l ((xs ++ (o ∷ ys)) ++ (z ∷ rest)))
+    ≡ after (w ++ (v ++ (IN (startOf xs) (endOf ys) op ∷ []))) (infixes n (expr d) level (startOf (xs ++ (o ∷ ys))) (on (endOf (xs ++ (o ∷ ys))) z rest)))
+join d level l op o z xs ys rest w v zero h i f j k e r = absurd (omega (arith, length-append ys (z ∷ rest)))
+join d level l op o z xs ys rest w v (suc n) h i f j k e r = (
   n,
   omega (arith, length-append ys (z ∷ rest)),
   rw (
-    append-assoc xs (o ∷ y ∷ ys) (z ∷ rest),
-    final-append x xs o (y ∷ ys),
-    final-two o y ys,
+    append-assoc xs (o ∷ ys) (z ∷ rest),
+    start-append xs (o ∷ ys) f,
+    end-behind xs o ys j,
     e,
-    turn n (expr d) level (x .from) op o (final x xs .to) y (ys ++ (z ∷ rest)) v (on (final y ys .to) z rest) h i j r,
+    turn n (expr d) level (startOf xs) op o (endOf xs) (ys ++ (z ∷ rest)) v (on (endOf ys) z rest) h i (fine-append ys _ j) r,
   )
-      (after-after w (v ++ (IN (x .from) (final y ys .to) op ∷ [])) _),
+      (after-after w (v ++ (IN (startOf xs) (endOf ys) op ∷ [])) _),
 )
 
-pub complete : {d p : ℕ} {x : Lexeme} {xs : List Lexeme} {w : List Record} → Gram d p x xs w → Goes d p x xs w
-unfolding final
-complete (value {d} {p} {f} {t} {v}) = unit d p (tok f t (number v)) [] (VC f t v ∷ []) (λ l z rest b. value-read d l z rest b f t v)
-complete (letter {d} {p} {f} {t} {c}) = unit d p (tok f t (quoted true (c ∷ []))) [] (VC f t c ∷ []) (λ l z rest b. letter-read d l z rest b f t c)
-complete (name {d} {p} {f} {t} {s}) = unit d p (tok f t (word s)) [] (VL f t ∷ []) (λ l z rest b. name-read d l z rest b f t s)
-complete (place {d} {p} {f} {t}) = unit d p (tok f t (mark 36)) [] (VI f t ∷ []) (λ l z rest b. place-read d l z rest b f t)
-complete (section {d} {p} {f} {t} {f′} {t′}) = unit d p (tok f t (mark 36)) (tok f′ t′ (mark 36) ∷ []) (VS f t ∷ []) (λ l z rest b. section-read d l z rest b f t f′ t′)
-complete (parens {d} {p} {f} {t} f′ t′ {x} {xs} {w} g) = unit d p (tok f t (mark 40)) (x ∷ (xs ++ (tok f′ t′ (mark 41) ∷ []))) w
-    (λ l z rest b. rw (append-assoc xs (tok f′ t′ (mark 41) ∷ []) (z ∷ rest), final-append x xs (tok f′ t′ (mark 41)) [])
-    (parens-read d l z rest b f t f′ t′ x xs w (first-fine g) (finish d 0 x xs w (complete g))))
-complete (prefix {d} {p} {f} {t} {c} {op} {x} {xs} {w} h i g) = unit d p (tok f t (mark c)) (x ∷ xs) (w ++ (PF f (final x xs .to) op ∷ []))
-    (λ l z rest b. prefix-read d l z rest b f t c op x xs w h i (first-fine g) (finish d prefixLevel x xs w (complete g)) (λ q _. loose q))
-complete (infix′ {d} {p} {op} f t c {x} {y} {xs} {ys} {w} {v} h i g g′) = λ level l z rest j b e.
-    let (n, k, q) = complete g level l (tok f t (mark c)) (y ∷ (ys ++ (z ∷ rest))) (le-trans j i) (operator-behind f t c op h) (λ r u. le-of-eq (ap leftLevel (some-inj (sym u ∙ h)))) in
-    join d p level l x (tok f t (mark c)) y z xs ys rest op w v n h (le-trans j i) (first-fine g′) k q
-    (finish d (rightLevel op) y ys v (complete g′) t z rest b (λ r u. le-trans (suc-le-suc (le-trans (e r u) i)) (left-right op)))
+-- an infix operator between two sides
+infix-goes : (d p q op : ℕ) (o : Lexeme) (xs ys : List Lexeme) (w v : List Record) → Operator p op o → suc p ≤ q → Fine xs → Fine ys → Goes (suc d) p xs w → Goes d q ys v
+    → Goes (suc d) p (xs ++ (o ∷ ys)) (w ++ (v ++ (IN (startOf xs) (endOf ys) op ∷ [])))
+infix-goes d p q op o xs ys w v a h f f′ g g′ = λ level l z rest j b e.
+    let i : level ≤ leftLevel op = omega (arith, a .lefts) in
+    let (n, k, r) = g level l o (ys ++ (z ∷ rest)) j (operator-next xs a) (λ op′ u. omega (arith, ap leftLevel (some-inj (sym u ∙ a .found)), a .lefts)) in
+    let right : rightLevel op ≤ q = omega (arith, a .rights) in
+    join d level l op o z xs ys rest w v n (a .found) i f f′ k r
+    (finish d (rightLevel op) ys v f′ (lower d q (rightLevel op) ys v right g′) (o .to) z rest (next-behind xs o ys z (a .no-dollar) b) (λ op′ u. omega (arith, e op′ u, a .rights)))
 
-pub reader-complete : {d p : ℕ} {x : Lexeme} {xs : List Lexeme} {w : List Record} → Gram d p x xs w → Done d p x xs w
-reader-complete {d} {p} {x} {xs} {w} g = finish d p x xs w (complete g)
+-- the left level of a level's loosest operator; prefix operators are above those of every infix operator
+abbrev floor : Level → ℕ
+floor sum = 1
+floor product = 3
+floor operand = 5
 
--- The listing of an expression is unique.
-line-behind : Behind (tok 0 0 newline)
-unfolding refusedAs isMark
-line-behind = record { fine = refl; no-dollar = refl }
+-- the level that a rule of the grammar asks for
+abbrev levelOf : {d : ℕ} {l : Level} {xs : List Lexeme} {a : Tree} → Derives d l xs a → Level
+levelOf {l = l} g = l
 
-line-none : (op p : ℕ) → operatorOf newline ≡ some op → leftLevel op < p
-unfolding operatorOf isMark
-line-none op p h = absurd (no-operator op h)
+complete : {d : ℕ} {l : Level} {xs : List Lexeme} {a : Tree} → Derives d l xs a → Goes d (floor l) xs (recordsOf a)
+unfolding recordsOf
+complete (atom {d} {xs} {a} h) = unit d 5 xs (recordsOf a) (λ l z rest b. atom-read d l z rest h b)
+complete (parentheses {d} {x} {y} {xs} {a} m g n) = unit d 5 (x ∷ (xs ++ (y ∷ []))) (recordsOf a)
+    (λ l z rest b. rw (append-assoc xs (y ∷ []) (z ∷ rest), end-last (x ∷ xs) y)
+    (parens-read d l z rest x y xs (recordsOf a) m n (b .fine) (first-fine g) (finish d 0 xs (recordsOf a) (first-fine g) (lower d 1 0 xs (recordsOf a) (omega arith) (complete g)))))
+complete (prefix {d} {op} {x} {xs} {a} o g) = unit d 5 (x ∷ xs) (recordsOf a ++ (PF (x .from) (endOf xs) op ∷ []))
+    (λ l z rest b. rw (end-behind [] x xs (first-fine g))
+    (prefix-read d l z rest x op xs (recordsOf a) (plus-minus o .0) (plus-minus o .1) b (first-fine g) (finish d prefixLevel xs (recordsOf a) (first-fine g) (rw prefix-level (complete g)))))
+complete (multiplied {d} {op} {x} {xs} {ys} {a} {b} g o g′) = infix-goes d 3 (floor (levelOf g′)) op x xs ys (recordsOf a) (recordsOf b) (times-over o) (omega arith) (first-fine g) (first-fine g′) (complete g) (complete g′)
+complete (added {d} {op} {x} {xs} {ys} {a} {b} g o g′) = infix-goes d 1 (floor (levelOf g′)) op x xs ys (recordsOf a) (recordsOf b) (plus-minus o .0) (omega arith) (first-fine g) (first-fine g′) (complete g) (complete g′)
+complete (oneOperand {d} {xs} {a} g) = lower d 5 3 xs (recordsOf a) (omega arith) (complete g)
+complete (oneProduct {d} {xs} {a} g) = lower d 3 1 xs (recordsOf a) (omega arith) (complete g)
 
-pub unique : {d p : ℕ} {x : Lexeme} {xs : List Lexeme} {w v : List Record} → Gram d p x xs w → Gram d p x xs v → w ≡ v
-unique {d} {p} g h =
-    let a = reader-complete g 0 (tok 0 0 newline) [] line-behind (λ op i. line-none op p i) in
-    let b = reader-complete h 0 (tok 0 0 newline) [] line-behind (λ op i. line-none op p i) in
-    cc (a, b)
+-- what the grammar derives the reader passes, where no operator is behind
+reader-complete : {d : ℕ} {xs : List Lexeme} {a : Tree} → Derives d sum xs a → (l : ℕ) (z : Lexeme) (rest : List Lexeme) → Ends xs z
+    → expr d 0 (lineAt l (xs ++ (z ∷ rest))) ≡ done (recordsOf a) tt (on (endOf xs) z rest)
+reader-complete {d} {xs} {a} g l z rest e =
+    finish d 0 xs (recordsOf a) (first-fine g) (lower d 1 0 xs (recordsOf a) (omega arith) (complete g)) l z rest
+    (record { fine = e .arrives; no-dollar = e .noDollar }) (λ op j. absurd (no-operator op (sym (e .noOperator) ∙ j)))
 
--- SOUNDNESS. The tokens passed, which were read as w.
-abbrev Ended : Lexeme → List Lexeme → Type 0
-Ended x [] = isLineEnd (x .kind) ≡ true
-Ended x (y ∷ ys) = Ended y ys
+-- SOUNDNESS. The tokens xs are an expression whose operators, outside parentheses, have a left level of at least p; it is listed as w.
+record Gram (d p : ℕ) (xs : List Lexeme) (w : List Record) : Type 0 where
+  tree : Tree
+  listed : w ≡ recordsOf tree
+  derived : (l : Level) → floor l ≤ suc p → Derives d l xs tree
 
-pub record Passed (d p : ℕ) (x : Lexeme) (ys : List Lexeme) (w : List Record) (s : Line) : Type 0 where
-  pub xs : List Lexeme
-  pub split : ys ≡ xs ++ (s .here ∷ s .more)
-  pub lasts : s .last ≡ final x xs .to
-  pub reads : Gram d p x xs w
-  pub stop : (op : ℕ) → operatorOf (s .here .kind) ≡ some op → leftLevel op < p
+-- what the reader has passed behind x, and where it stands
+record Passed (d p : ℕ) (x : Lexeme) (ys : List Lexeme) (w : List Record) (s : Line) : Type 0 where
+  xs : List Lexeme
+  split : ys ≡ xs ++ leftOf s
+  lasts : s .last ≡ endOf (x ∷ xs)
+  reads : Gram d p (x ∷ xs) w
+  follows : Next (x ∷ xs) (s .here)
+  stop : (op : ℕ) → operatorOf (s .here .kind) ≡ some op → leftLevel op < p
+
+record Began (d : ℕ) (x : Lexeme) (ys : List Lexeme) (w : List Record) (s : Line) : Type 0 where
+  xs : List Lexeme
+  split : ys ≡ xs ++ leftOf s
+  lasts : s .last ≡ endOf (x ∷ xs)
+  tree : Tree
+  listed : w ≡ recordsOf tree
+  reads : Derives (suc d) operand (x ∷ xs) tree
+  follows : Next (x ∷ xs) (s .here)
+
+-- an operand is of every level
+as-level : {d : ℕ} {xs : List Lexeme} {a : Tree} (l : Level) → Derives d operand xs a → Derives d l xs a
+as-level sum g = oneProduct (oneOperand g)
+as-level product g = oneOperand g
+as-level operand g = g
+
+began-gram : {d : ℕ} {x : Lexeme} {ys : List Lexeme} {w : List Record} {s : Line} (q : Began d x ys w s) (p : ℕ) → Gram (suc d) p (x ∷ q .xs) w
+began-gram q p = record { tree = q .tree; listed = q .listed; derived = λ l _. as-level l (q .reads) }
 
 -- an answer that, if it is no refusal, has Q
 data Post {A : Type 0} (Q : List Record → A → Line → Type 0) : Answer Line A → Type 0 where
@@ -302,120 +368,167 @@ post-map : {A : Type 0} {R Q : List Record → A → Line → Type 0} {p : Answe
 post-map f (holds {w} {a} {s} h) = holds (f w a s h)
 post-map f fails = fails
 
+post-done : {A : Type 0} {Q : List Record → A → Line → Type 0} {w : List Record} {a : A} {s : Line} → Post Q (done w a s) → Q w a s
+post-done (holds h) = h
+
 strip : {A : Type 0} {Q : List Record → A → Line → Type 0} {p : Answer Line A} → Post Q p → Post Q (after [] p)
 unfolding after
 strip (holds h) = holds h
 strip fails = fails
 
-arrive-post : {B : Type 0} {Q : List Record → B → Line → Type 0} (k : Reader Line B) (y : Lexeme) (s : Line) → Post Q (k s) → Post Q (thence (arrive y (done [] (tt {0}) s)) (λ _. k))
+arrive-post : {B : Type 0} {Q : List Record → B → Line → Type 0} (k : Reader Line B) (y : Lexeme) (s : Line)
+    → (refusedAs (y .kind) ≡ none → Post Q (k s)) → Post Q (thence (arrive y (done [] (tt {0}) s)) (λ _. k))
 unfolding arrive thence
-arrive-post {Q = Q} k y s h = go (refusedAs (y .kind))
+arrive-post {Q = Q} k y s h = go (refusedAs (y .kind)) h
   where
-    go : (o : Option ℕ) → Post Q (thence (maybe o (done [] (tt {0}) s) (λ n. refused (at n (y .from) (y .to)))) (λ _. k))
-    go none = strip h
-    go (some n) = fails
+    go : (o : Option ℕ) → (o ≡ none → Post Q (k s)) → Post Q (thence (maybe o (done [] (tt {0}) s) (λ n. refused (at n (y .from) (y .to)))) (λ _. k))
+    go none h = strip (h refl)
+    go (some n) h = fails
 
 next-then : {B : Type 0} {Q : List Record → B → Line → Type 0} (k : Reader Line B) (l : ℕ) (x : Lexeme) (ys : List Lexeme) → isLineEnd (x .kind) ≡ false → Ended x ys
-    → ((y : Lexeme) (zs : List Lexeme) → ys ≡ y ∷ zs → Ended y zs → Post Q (k (on (x .to) y zs))) → Post Q ((next >> k) (on l x ys))
+    → ((y : Lexeme) (zs : List Lexeme) → ys ≡ y ∷ zs → Ended y zs → refusedAs (y .kind) ≡ none → Post Q (k (on (x .to) y zs))) → Post Q ((next >> k) (on l x ys))
 unfolding _>>_ _>>=_ next step
 next-then k l x [] h e g = absurd (true≢false (sym e ∙ h))
 next-then k l x (y ∷ zs) h e g = arrive-post k y (on (x .to) y zs) (g y zs refl e)
 
 next-only : {Q : List Record → Unit {0} → Line → Type 0} (l : ℕ) (x : Lexeme) (ys : List Lexeme) → isLineEnd (x .kind) ≡ false → Ended x ys
-    → ((y : Lexeme) (zs : List Lexeme) → ys ≡ y ∷ zs → Ended y zs → Q [] tt (on (x .to) y zs)) → Post Q (next (on l x ys))
+    → ((y : Lexeme) (zs : List Lexeme) → ys ≡ y ∷ zs → Ended y zs → refusedAs (y .kind) ≡ none → Q [] tt (on (x .to) y zs)) → Post Q (next (on l x ys))
 unfolding next step arrive
 next-only l x [] h e g = absurd (true≢false (sym e ∙ h))
-next-only {Q} l x (y ∷ zs) h e g = go (refusedAs (y .kind))
+next-only {Q} l x (y ∷ zs) h e g = go (refusedAs (y .kind)) (g y zs refl e)
   where
-    go : (o : Option ℕ) → Post Q (maybe o (done [] tt (on (x .to) y zs)) (λ n. refused (at n (y .from) (y .to))))
-    go none = holds (g y zs refl e)
-    go (some n) = fails
+    go : (o : Option ℕ) → (o ≡ none → Q [] tt (on (x .to) y zs)) → Post Q (maybe o (done [] tt (on (x .to) y zs)) (λ n. refused (at n (y .from) (y .to))))
+    go none h = holds (h refl)
+    go (some n) h = fails
 
-pub ExprSound : ℕ → Type 0
+ExprSound : ℕ → Type 0
 ExprSound d = (p l : ℕ) (x : Lexeme) (ys : List Lexeme) → Ended x ys → Post (λ w _ s. Passed d p x ys w s) (expr d p (on l x ys))
 
-record Began (d : ℕ) (x : Lexeme) (ys : List Lexeme) (w : List Record) (s : Line) : Type 0 where
-  xs : List Lexeme
-  split : ys ≡ xs ++ (s .here ∷ s .more)
-  lasts : s .last ≡ final x xs .to
-  reads : (p : ℕ) → Gram (suc d) p x xs w
-
--- a token by its kind
-as-mark : (n c : ℕ) → eqb c n ≡ true → mark c ≡ mark n
-as-mark n c h = ap mark (eqb-true c n h)
-
-mark-kind : (k : Kind) → isMark "$" k ≡ true → k ≡ mark 36
+-- a token by its mark
+marked-kind : (a : Char) (k : Kind) → isMark a k ≡ true → k ≡ mark (code a)
 unfolding isMark is
-mark-kind (mark c) h = as-mark 36 c h
-mark-kind (word w) h = absurd (false≢true h)
-mark-kind (number v) h = absurd (false≢true h)
-mark-kind (quoted b w) h = absurd (false≢true h)
-mark-kind newline h = absurd (false≢true h)
-mark-kind blank h = absurd (false≢true h)
-mark-kind comment h = absurd (false≢true h)
-mark-kind invalid h = absurd (false≢true h)
-mark-kind end h = absurd (false≢true h)
-mark-kind (bad n) h = absurd (false≢true h)
+marked-kind a (mark c) h = ap mark (eqb-true c (code a) h)
+marked-kind a (word w) h = absurd (false≢true h)
+marked-kind a (number v) h = absurd (false≢true h)
+marked-kind a (quoted b w) h = absurd (false≢true h)
+marked-kind a newline h = absurd (false≢true h)
+marked-kind a blank h = absurd (false≢true h)
+marked-kind a comment h = absurd (false≢true h)
+marked-kind a invalid h = absurd (false≢true h)
+marked-kind a end h = absurd (false≢true h)
+marked-kind a (bad n) h = absurd (false≢true h)
 
-close-kind : (k : Kind) → isMark ")" k ≡ true → k ≡ mark 41
-unfolding isMark is
-close-kind (mark c) h = as-mark 41 c h
-close-kind (word w) h = absurd (false≢true h)
-close-kind (number v) h = absurd (false≢true h)
-close-kind (quoted b w) h = absurd (false≢true h)
-close-kind newline h = absurd (false≢true h)
-close-kind blank h = absurd (false≢true h)
-close-kind comment h = absurd (false≢true h)
-close-kind invalid h = absurd (false≢true h)
-close-kind end h = absurd (false≢true h)
-close-kind (bad n) h = absurd (false≢true h)
+as-mark : (a : Char) (x : Lexeme) → isMark a (x .kind) ≡ true → Mark a x
+as-mark a x h = record { marked = marked-kind a (x .kind) h }
 
-by-kind : (x : Lexeme) (k : Kind) → x .kind ≡ k → x ≡ tok (x .from) (x .to) k
-by-kind x k h = λ i. record { from = x .from; to = x .to; kind = h i }
+-- an infix operator by its token
+data Which (o : Lexeme) (op : ℕ) : Type 0 where
+  looser : PlusMinus o op → Which o op
+  tighter : TimesOver o op → Which o op
 
-mark-inside : (x : Lexeme) (c : ℕ) → x .kind ≡ mark c → isLineEnd (x .kind) ≡ false
-unfolding isLineEnd
-mark-inside x c h = rw h
+which : (o : Lexeme) (op : ℕ) → operatorOf (o .kind) ≡ some op → Which o op
+unfolding operatorOf
+which o op h = go (isMark "+" (o .kind)) (isMark "-" (o .kind)) (isMark "*" (o .kind)) (isMark "/" (o .kind)) refl refl refl refl h
+  where
+    go : (a b c d : Bool) → isMark "+" (o .kind) ≡ a → isMark "-" (o .kind) ≡ b → isMark "*" (o .kind) ≡ c → isMark "/" (o .kind) ≡ d
+        → _≡_ {A = Option ℕ} (if a then some 0 else if b then some 1 else if c then some 2 else if d then some 3 else none) (some op) → Which o op
+    go true b c d i j k l h = rw (← some-inj h) (looser (plus (as-mark "+" o i)))
+    go false true c d i j k l h = rw (← some-inj h) (looser (minus (as-mark "-" o j)))
+    go false false true d i j k l h = rw (← some-inj h) (tighter (times (as-mark "*" o k)))
+    go false false false true i j k l h = rw (← some-inj h) (tighter (over (as-mark "/" o l)))
+    go false false false false i j k l h = absurd (no-operator op h)
+
+which-operator : {o : Lexeme} {op : ℕ} → Which o op → (p : ℕ) × Operator p op o
+which-operator (looser o) = (1, plus-minus o .0)
+which-operator (tighter o) = (3, times-over o)
+
+sign : (o : Lexeme) (op : ℕ) → operatorOf (o .kind) ≡ some op → op < 2 → PlusMinus o op
+sign o op h i = go (which o op h) i
+  where
+    go : {op : ℕ} → Which o op → op < 2 → PlusMinus o op
+    go (looser m) i = m
+    go (tighter (times m)) i = absurd (omega arith)
+    go (tighter (over m)) i = absurd (omega arith)
+
+-- two sides of an infix operator, at each level that the operator may stand at
+joined-gram : {d : ℕ} {xs ys : List Lexeme} {w v : List Record} (o : Lexeme) (op q : ℕ) → operatorOf (o .kind) ≡ some op → q ≤ leftLevel op
+    → Gram (suc d) (leftLevel op) xs w → Gram d (rightLevel op) ys v → Gram (suc d) q (xs ++ (o ∷ ys)) (w ++ (v ++ (IN (startOf xs) (endOf ys) op ∷ [])))
+unfolding recordsOf
+joined-gram {d} {xs} {ys} {w} {v} o op q h i g u = record {
+  tree = joined (startOf xs) (endOf ys) op (g .tree) (u .tree);
+  listed = ap₂ (λ (x y : List Record). x ++ (y ++ (IN (startOf xs) (endOf ys) op ∷ []))) (g .listed) (u .listed);
+  derived = go (which o op h);
+}
+  where
+    go : Which o op → (l : Level) → floor l ≤ suc q → Derives (suc d) l (xs ++ (o ∷ ys)) (joined (startOf xs) (endOf ys) op (g .tree) (u .tree))
+    go (looser m) sum j = added (g .derived _ (omega arith)) m (u .derived _ (omega (arith, plus-minus m .0 .rights)))
+    go (looser m) product j = absurd (omega (arith, plus-minus m .0 .lefts))
+    go (looser m) operand j = absurd (omega (arith, plus-minus m .0 .lefts))
+    go (tighter m) sum j =
+        oneProduct (multiplied (g .derived _ (omega (arith, times-over m .lefts))) m (u .derived _ (omega (arith, times-over m .rights))))
+    go (tighter m) product j = multiplied (g .derived _ (omega (arith, times-over m .lefts))) m (u .derived _ (omega (arith, times-over m .rights)))
+    go (tighter m) operand j = absurd (omega (arith, times-over m .lefts))
 
 ended-suffix : (x : Lexeme) (xs : List Lexeme) (z : Lexeme) (zs : List Lexeme) → Ended x (xs ++ (z ∷ zs)) → Ended z zs
 ended-suffix x [] z zs h = h
 ended-suffix x (y ∷ xs) z zs h = ended-suffix y xs z zs h
 
-module _ (d l f t : ℕ) where
-  second-dollar : (c : ℕ) → c ≡ 36 → (ys : List Lexeme) (y : Lexeme) (zs : List Lexeme) → ys ≡ y ∷ zs → Ended y zs → (b : Bool) → isMark "$" (y .kind) ≡ b
-      → Post (λ w _ s. Began d (tok f t (mark c)) ys w s) (if_then_else_ {A = Reader Line (Unit {0})} b (next >> write (VS f t)) (write (VI f t)) (on t y zs))
-  unfolding write final
-  second-dollar c h ys y zs i j true k =
-      let m : y .kind ≡ mark 36 = mark-kind (y .kind) k in
-      next-then (write (VS f t)) t y zs (mark-inside y 36 m) j (λ y′ zs′ i′ j′. holds {w = VS f t ∷ []} (record {
+-- behind tokens that end in no lone `$`
+follows-any : (xs : List Lexeme) (z : Lexeme) → loneDollar false xs ≡ false → refusedAs (z .kind) ≡ none → Next xs z
+follows-any xs z h i = record { fine = i; no-dollar = λ j. absurd (true≢false (sym j ∙ h)) }
+
+module _ (d l : ℕ) (x : Lexeme) where
+  atom-began : {a : Tree} {w : List Record} (y : Lexeme) (ys zs : List Lexeme) → ys ≡ y ∷ zs → refusedAs (y .kind) ≡ none → w ≡ recordsOf a → Atom (x ∷ []) a
+      → isMark "$" (x .kind) ≡ false → Began d x ys w (on (x .to) y zs)
+  unfolding endOf loneDollar
+  atom-began {a} y ys zs i f h m n = record { xs = []; split = i; lasts = refl; tree = a; listed = h; reads = atom m; follows = follows-any (x ∷ []) y n f }
+
+  second-dollar : Mark "$" x → (ys : List Lexeme) (y : Lexeme) (zs : List Lexeme) → ys ≡ y ∷ zs → Ended y zs → refusedAs (y .kind) ≡ none → (b : Bool) → isMark "$" (y .kind) ≡ b
+      → Post (λ w _ s. Began d x ys w s) (if_then_else_ {A = Reader Line (Unit {0})} b (next >> write (VS (x .from) (x .to))) (write (VI (x .from) (x .to))) (on (x .to) y zs))
+  unfolding write endOf recordsOf loneDollar openText isMark
+  second-dollar m ys y zs i j f true k =
+      let n : Mark "$" y = as-mark "$" y k in
+      next-then (write (VS (x .from) (x .to))) (x .to) y zs (mark-inside "$" (y .kind) k) j (λ y′ zs′ i′ j′ f′. holds {w = VS (x .from) (x .to) ∷ []} (record {
         xs = y ∷ [];
         split = i ∙ ap (λ (r : List Lexeme). y ∷ r) i′;
         lasts = refl;
-        reads = λ p. rw (h, by-kind y (mark 36) m) section;
+        tree = dollars (x .from) (x .to);
+        listed = refl;
+        reads = atom (twoDollars m n);
+        follows = follows-any (x ∷ y ∷ []) y′ (rw (m .marked)) f′;
       }))
-  second-dollar c h ys y zs i j false k = holds {w = VI f t ∷ []} (record { xs = []; split = i; lasts = refl; reads = λ p. rw h place })
+  second-dollar m ys y zs i j f false k = holds {w = VI (x .from) (x .to) ∷ []} (record {
+    xs = [];
+    split = i;
+    lasts = refl;
+    tree = dollar (x .from) (x .to);
+    listed = refl;
+    reads = atom (aDollar m);
+    follows = record { fine = f; no-dollar = λ _. k };
+  })
 
-  dollar-sound : (c : ℕ) (ys : List Lexeme) → Ended (tok f t (mark c)) ys → (b : Bool) → eqb c 36 ≡ b
-      → Post (λ w _ s. Began d (tok f t (mark c)) ys w s) (if_then_else_ {A = Reader Line (Unit {0})} b (next >> (kind >>= λ k. if isMark "$" k then (next >> write (VS f t)) else (write (VI f t)))) (refuseHere 21) (on l (tok f t (mark c)) ys))
-  unfolding isLineEnd refuseHere kind _>>=_ thence
-  dollar-sound c ys e true h = next-then _ l (tok f t (mark c)) ys refl e (λ y zs i j. strip (second-dollar c (eqb-true c 36 h) ys y zs i j (isMark "$" (y .kind)) refl))
-  dollar-sound c ys e false h = fails
+  dollar-sound : (c : ℕ) (ys : List Lexeme) → x .kind ≡ mark c → Ended x ys → (b : Bool) → eqb c 36 ≡ b
+      → Post (λ w _ s. Began d x ys w s) (if_then_else_ {A = Reader Line (Unit {0})} b (next >> (kind >>= λ k. if isMark "$" k then (next >> write (VS (x .from) (x .to))) else (write (VI (x .from) (x .to))))) (refuseHere 21) (on l x ys))
+  unfolding isLineEnd refuseHere kind _>>=_ thence openText
+  dollar-sound c ys q e true h = next-then _ l x ys (rw q) e (λ y zs i j f.
+      strip (second-dollar (record { marked = q ∙ ap mark (eqb-true c 36 h) }) ys y zs i j f (isMark "$" (y .kind)) refl))
+  dollar-sound c ys q e false h = fails
 
-  atom-sound : (k : Kind) (ys : List Lexeme) → Ended (tok f t k) ys → Post (λ w _ s. Began d (tok f t k) ys w s) (atomOf k (tok f t k) (on l (tok f t k) ys))
-  unfolding atomOf character refuseHere write final isLineEnd is
-  atom-sound (number v) ys e = next-then (write (VC f t v)) l (tok f t (number v)) ys refl e (λ y zs i j. holds (record { xs = []; split = i; lasts = refl; reads = λ p. value }))
-  atom-sound (quoted false s) ys e = fails
-  atom-sound (quoted true []) ys e = fails
-  atom-sound (quoted true (c ∷ [])) ys e = next-then (write (VC f t c)) l (tok f t (quoted true (c ∷ []))) ys refl e (λ y zs i j. holds (record { xs = []; split = i; lasts = refl; reads = λ p. letter }))
-  atom-sound (quoted true (c ∷ c′ ∷ s)) ys e = fails
-  atom-sound (word s) ys e = next-then (write (VL f t)) l (tok f t (word s)) ys refl e (λ y zs i j. holds (record { xs = []; split = i; lasts = refl; reads = λ p. name }))
-  atom-sound (mark c) ys e = dollar-sound c ys e (eqb c 36) refl
-  atom-sound newline ys e = fails
-  atom-sound blank ys e = fails
-  atom-sound comment ys e = fails
-  atom-sound invalid ys e = fails
-  atom-sound end ys e = fails
-  atom-sound (bad n) ys e = fails
+  atom-sound : (k : Kind) (ys : List Lexeme) → x .kind ≡ k → Ended x ys → Post (λ w _ s. Began d x ys w s) (atomOf k x (on l x ys))
+  unfolding atomOf character refuseHere write isLineEnd openText isMark recordsOf
+  atom-sound (number v) ys q e = next-then (write (VC (x .from) (x .to) v)) l x ys (rw q) e (λ y zs i j f. holds (atom-began y ys zs i f refl (aNumber q) (rw q)))
+  atom-sound (quoted false s) ys q e = fails
+  atom-sound (quoted true []) ys q e = fails
+  atom-sound (quoted true (c ∷ [])) ys q e = next-then (write (VC (x .from) (x .to) c)) l x ys (rw q) e (λ y zs i j f. holds (atom-began y ys zs i f refl (aCharacter q) (rw q)))
+  atom-sound (quoted true (c ∷ c′ ∷ s)) ys q e = fails
+  atom-sound (word s) ys q e = next-then (write (VL (x .from) (x .to))) l x ys (rw q) e (λ y zs i j f. holds (atom-began y ys zs i f refl (aName q) (rw q)))
+  atom-sound (mark c) ys q e = dollar-sound c ys q e (eqb c 36) refl
+  atom-sound newline ys q e = fails
+  atom-sound blank ys q e = fails
+  atom-sound comment ys q e = fails
+  atom-sound invalid ys q e = fails
+  atom-sound end ys q e = fails
+  atom-sound (bad n) ys q e = fails
 
 -- what a reader one level deeper has passed, behind a token
 record Deeper (d p : ℕ) (ys : List Lexeme) (w : List Record) (s : Line) : Type 0 where
@@ -423,135 +536,104 @@ record Deeper (d p : ℕ) (ys : List Lexeme) (w : List Record) (s : Line) : Type
   zs : List Lexeme
   behind : ys ≡ y ∷ zs
   ended : Ended y zs
-  passed′ : Passed d p y zs w s
+  inner : Passed d p y zs w s
 
 deeper : (d p l : ℕ) (x : Lexeme) (ys : List Lexeme) → ExprSound d → isLineEnd (x .kind) ≡ false → Ended x ys → Post (λ w _ s. Deeper d p ys w s) ((next >> expr d p) (on l x ys))
 unfolding ExprSound
-deeper d p l x ys g h e = next-then (expr d p) l x ys h e (λ y zs i j. post-map (λ w a s q. record { y = y; zs = zs; behind = i; ended = j; passed′ = q }) (g p (x .to) y zs j))
+deeper d p l x ys g h e = next-then (expr d p) l x ys h e (λ y zs i j f. post-map (λ w a s q. record { y = y; zs = zs; behind = i; ended = j; inner = q }) (g p (x .to) y zs j))
 
 deeper-ended : (d p : ℕ) (ys : List Lexeme) (w : List Record) (s : Line) → Deeper d p ys w s → Ended (s .here) (s .more)
-deeper-ended d p ys w s q = ended-suffix (q .y) (q .passed′ .xs) (s .here) (s .more) (rw (q .passed′ .split) at (q .ended))
+deeper-ended d p ys w s q = ended-suffix (q .y) (q .inner .xs) (s .here) (s .more) (rw (q .inner .split) at (q .ended))
 
-module _ (d l f t c : ℕ) (ys : List Lexeme) where
-  close-sound : c ≡ 40 → (w : List Record) (s : Line) → Deeper d 0 ys w s → (b : Bool) → isMark ")" (s .here .kind) ≡ b
-      → Post (λ v _ r. Began d (tok f t (mark c)) ys (w ++ v) r) (if_then_else_ {A = Reader Line (Unit {0})} b next (refuseHere 14) s)
-  unfolding refuseHere final
+passed-fine : {d p : ℕ} {x : Lexeme} {ys : List Lexeme} {w : List Record} {s : Line} (q : Passed d p x ys w s) → Fine (x ∷ q .xs)
+passed-fine q = first-fine (q .reads .derived sum (omega arith))
+
+module _ (d l : ℕ) (x : Lexeme) (ys : List Lexeme) where
+  close-sound : Mark "(" x → (w : List Record) (s : Line) → Deeper d 0 ys w s → (b : Bool) → isMark ")" (s .here .kind) ≡ b
+      → Post (λ v _ r. Began d x ys (w ++ v) r) (if_then_else_ {A = Reader Line (Unit {0})} b next (refuseHere 14) s)
+  unfolding refuseHere loneDollar
   close-sound h w s q false k = fails
   close-sound h w s q true k =
-      let m : s .here .kind ≡ mark 41 = close-kind (s .here .kind) k in
-      let xs′ : List Lexeme = q .passed′ .xs in
-      next-only (s .last) (s .here) (s .more) (mark-inside (s .here) 41 m) (deeper-ended d 0 ys w s q) (λ z zs i j. record {
-        xs = q .y ∷ (xs′ ++ (s .here ∷ []));
-        split = q .behind ∙ ap (λ (r : List Lexeme). q .y ∷ r) (q .passed′ .split ∙ ap (λ (r : List Lexeme). xs′ ++ (s .here ∷ r)) i ∙ sym (append-assoc xs′ (s .here ∷ []) (z ∷ zs)));
-        lasts = ap (λ (x : Lexeme). x .to) (sym (final-append (q .y) xs′ (s .here) []));
-        reads = λ p. rw (append-nil w, h, by-kind (s .here) (mark 41) m) (parens (s .here .from) (s .here .to) (q .passed′ .reads));
+      let m : Mark ")" (s .here) = as-mark ")" (s .here) k in
+      let xs : List Lexeme = q .inner .xs in
+      next-only (s .last) (s .here) (s .more) (mark-inside ")" (s .here .kind) k) (deeper-ended d 0 ys w s q) (λ z zs i j f. record {
+        xs = q .y ∷ (xs ++ (s .here ∷ []));
+        split = q .behind ∙ ap (λ (r : List Lexeme). q .y ∷ r) (q .inner .split ∙ ap (λ (r : List Lexeme). xs ++ (s .here ∷ r)) i ∙ sym (append-assoc xs (s .here ∷ []) (z ∷ zs)));
+        lasts = sym (end-last (x ∷ q .y ∷ xs) (s .here));
+        tree = q .inner .reads .tree;
+        listed = append-nil w ∙ q .inner .reads .listed;
+        reads = parentheses h (q .inner .reads .derived sum (omega arith)) m;
+        follows = follows-any _ z (lone-behind false (x ∷ q .y ∷ xs) (s .here) [] (close-dollar (s .here) m)) f;
       })
 
-  parens-sound : c ≡ 40 → ExprSound d → Ended (tok f t (mark c)) ys → Post (λ w _ s. Began d (tok f t (mark c)) ys w s) ((next >> expr d 0 >> expect ")" 14) (on l (tok f t (mark c)) ys))
+  parens-sound : Mark "(" x → ExprSound d → Ended x ys → Post (λ w _ s. Began d x ys w s) ((next >> expr d 0 >> expect ")" 14) (on l x ys))
   unfolding _>>_ _>>=_ expect kind thence isLineEnd
-  parens-sound h g e = thence-post (deeper d 0 l (tok f t (mark c)) ys g refl e) (λ w a s q. strip (close-sound h w s q (isMark ")" (s .here .kind)) refl))
+  parens-sound h g e = thence-post (deeper d 0 l x ys g (rw (h .marked)) e) (λ w a s q. strip (close-sound h w s q (isMark ")" (s .here .kind)) refl))
 
-  prefix-sound : (op : ℕ) → operatorOf (mark c) ≡ some op → ExprSound d → Ended (tok f t (mark c)) ys → (b : Bool) → ltb op 2 ≡ b
-      → Post (λ w _ s. Began d (tok f t (mark c)) ys w s)
-      ((next >> ((if b then (expr d prefixLevel) else (refuse (nowhere 22))) >> (passed >>= λ r. write (PF f r op)))) (on l (tok f t (mark c)) ys))
-  unfolding ExprSound _>>_ _>>=_ thence passed write after final refuse isLineEnd
-  prefix-sound op h g e false k = next-then _ l (tok f t (mark c)) ys refl e (λ y zs i j. fails)
-  prefix-sound op h g e true k = next-then _ l (tok f t (mark c)) ys refl e (λ y zs i j. thence-post (g prefixLevel t y zs j) (λ w a s q.
-      holds {w = PF f (s .last) op ∷ []} (record {
+  prefix-sound : (op : ℕ) → operatorOf (x .kind) ≡ some op → ExprSound d → Ended x ys → (b : Bool) → ltb op 2 ≡ b
+      → Post (λ w _ s. Began d x ys w s)
+      ((next >> ((if b then (expr d prefixLevel) else (refuse (nowhere 22))) >> (passed >>= λ r. write (PF (x .from) r op)))) (on l x ys))
+  unfolding ExprSound _>>_ _>>=_ thence passed write after refuse recordsOf
+  prefix-sound op h g e false k = next-then _ l x ys (operator-inside (x .kind) op h) e (λ y zs i j f. fails)
+  prefix-sound op h g e true k =
+      let m : PlusMinus x op = sign x op h (ltb-true op 2 k) in
+      next-then _ l x ys (operator-inside (x .kind) op h) e (λ y zs i j f. thence-post (g prefixLevel (x .to) y zs j) (λ w a s q.
+      let here : endOf (x ∷ y ∷ q .xs) ≡ endOf (y ∷ q .xs) = end-behind [] x (y ∷ q .xs) (passed-fine q) in
+      holds {w = PF (x .from) (s .last) op ∷ []} (record {
         xs = y ∷ q .xs;
         split = i ∙ ap (λ (r : List Lexeme). y ∷ r) (q .split);
-        lasts = q .lasts;
-        reads = λ p. rw (q .lasts) (prefix h (ltb-true op 2 k) (q .reads));
+        lasts = q .lasts ∙ sym here;
+        tree = signed (x .from) (endOf (y ∷ q .xs)) op (q .reads .tree);
+        listed = ap₂ (λ (r : List Record) (t : ℕ). r ++ (PF (x .from) t op ∷ [])) (q .reads .listed) (q .lasts);
+        reads = prefix m (q .reads .derived operand (rw prefix-level (omega arith)));
+        follows = behind-next [] x (y ∷ q .xs) (s .here) (plus-minus m .0 .no-dollar) (q .follows);
       })))
 
-  operator-sound : ExprSound d → Ended (tok f t (mark c)) ys → (o : Option ℕ) → operatorOf (mark c) ≡ o
-      → Post (λ w _ s. Began d (tok f t (mark c)) ys w s) (maybe o atom (λ op. (next >> ((if ltb op 2 then (expr d prefixLevel) else (refuse (nowhere 22))) >> (passed >>= λ r. write (PF f r op))))) (on l (tok f t (mark c)) ys))
-  unfolding atom ahead _>>=_ thence
-  operator-sound g e none h = strip (atom-sound d l f t (mark c) ys e)
+  operator-sound : ExprSound d → Ended x ys → (o : Option ℕ) → operatorOf (x .kind) ≡ o
+      → Post (λ w _ s. Began d x ys w s) (maybe o atomReader (λ op. (next >> ((if ltb op 2 then (expr d prefixLevel) else (refuse (nowhere 22))) >> (passed >>= λ r. write (PF (x .from) r op))))) (on l x ys))
+  unfolding atomReader ahead _>>=_ thence
+  operator-sound g e none h = strip (atom-sound d l x (x .kind) ys refl e)
   operator-sound g e (some op) h = prefix-sound op h g e (ltb op 2) refl
 
-  mark-sound : ExprSound d → Ended (tok f t (mark c)) ys → (b : Bool) → eqb c 40 ≡ b
-      → Post (λ w _ s. Began d (tok f t (mark c)) ys w s) (if_then_else_ {A = Reader Line (Unit {0})} b (next >> expr d 0 >> expect ")" 14)
-      (maybe (operatorOf (mark c)) atom (λ op. (next >> ((if ltb op 2 then (expr d prefixLevel) else (refuse (nowhere 22))) >> (passed >>= λ r. write (PF f r op)))))) (on l (tok f t (mark c)) ys))
-  mark-sound g e true h = parens-sound (eqb-true c 40 h) g e
-  mark-sound g e false h = operator-sound g e (operatorOf (mark c)) refl
+  open-sound : ExprSound d → Ended x ys → (b : Bool) → isMark "(" (x .kind) ≡ b
+      → Post (λ w _ s. Began d x ys w s) (if_then_else_ {A = Reader Line (Unit {0})} b (next >> expr d 0 >> expect ")" 14)
+      (maybe (operatorOf (x .kind)) atomReader (λ op. (next >> ((if ltb op 2 then (expr d prefixLevel) else (refuse (nowhere 22))) >> (passed >>= λ r. write (PF (x .from) r op)))))) (on l x ys))
+  open-sound g e true h = parens-sound (as-mark "(" x h) g e
+  open-sound g e false h = operator-sound g e (operatorOf (x .kind)) refl
 
-primary-sound : (d l f t : ℕ) (k : Kind) (ys : List Lexeme) → ExprSound d → Ended (tok f t k) ys → Post (λ w _ s. Began d (tok f t k) ys w s) (primary (expr d) (on l (tok f t k) ys))
-unfolding primary atom ahead _>>=_ thence operatorOf isMark is
-primary-sound d l f t (mark c) ys g e = strip (mark-sound d l f t c ys g e (eqb c 40) refl)
-primary-sound d l f t (word w) ys g e = strip (strip (atom-sound d l f t (word w) ys e))
-primary-sound d l f t (number v) ys g e = strip (strip (atom-sound d l f t (number v) ys e))
-primary-sound d l f t (quoted b w) ys g e = strip (strip (atom-sound d l f t (quoted b w) ys e))
-primary-sound d l f t newline ys g e = strip (strip (atom-sound d l f t newline ys e))
-primary-sound d l f t blank ys g e = strip (strip (atom-sound d l f t blank ys e))
-primary-sound d l f t comment ys g e = strip (strip (atom-sound d l f t comment ys e))
-primary-sound d l f t invalid ys g e = strip (strip (atom-sound d l f t invalid ys e))
-primary-sound d l f t end ys g e = strip (strip (atom-sound d l f t end ys e))
-primary-sound d l f t (bad n) ys g e = strip (strip (atom-sound d l f t (bad n) ys e))
+  primary-sound : ExprSound d → Ended x ys → Post (λ w _ s. Began d x ys w s) (primary (expr d) (on l x ys))
+  unfolding primary ahead _>>=_ thence
+  primary-sound g e = strip (open-sound g e (isMark "(" (x .kind)) refl)
 
 -- The loop. So far x ∷ xs is read as w, and may be the left side of the operator ahead.
 record Looped (d p : ℕ) (x : Lexeme) (xs : List Lexeme) (w : List Record) (r s : Line) : Type 0 where
   zs : List Lexeme
-  split : r .here ∷ r .more ≡ zs ++ (s .here ∷ s .more)
-  lasts : s .last ≡ final x (xs ++ zs) .to
-  reads : Gram (suc d) p x (xs ++ zs) w
+  split : leftOf r ≡ zs ++ leftOf s
+  lasts : s .last ≡ endOf (x ∷ (xs ++ zs))
+  reads : Gram (suc d) p (x ∷ (xs ++ zs)) w
+  follows : Next (x ∷ (xs ++ zs)) (s .here)
   stop : (op : ℕ) → operatorOf (s .here .kind) ≡ some op → leftLevel op < p
 
 LoopSound : ℕ → ℕ → ℕ → Type 0
-LoopSound n d p = (x : Lexeme) (xs : List Lexeme) (w : List Record) (r : Line) → length (r .more) ≤ n → Ended (r .here) (r .more) → r .last ≡ final x xs .to
-    → Gram (suc d) p x xs w → ((op : ℕ) → operatorOf (r .here .kind) ≡ some op → Gram (suc d) (leftLevel op) x xs w)
+LoopSound n d p = (x : Lexeme) (xs : List Lexeme) (w : List Record) (r : Line) → length (r .more) ≤ n → Ended (r .here) (r .more) → r .last ≡ endOf (x ∷ xs) → Next (x ∷ xs) (r .here)
+    → Gram (suc d) p (x ∷ xs) w → ((op : ℕ) → operatorOf (r .here .kind) ≡ some op → Gram (suc d) (leftLevel op) (x ∷ xs) w)
     → Post (λ v _ s. Looped d p x xs (w ++ v) r s) (infixes n (expr d) p (x .from) r)
 
 -- the loop ends here
-looped-here : (d p : ℕ) (x : Lexeme) (xs : List Lexeme) (w : List Record) (r : Line) → r .last ≡ final x xs .to → Gram (suc d) p x xs w
+looped-here : (d p : ℕ) (x : Lexeme) (xs : List Lexeme) (w : List Record) (r : Line) → r .last ≡ endOf (x ∷ xs) → Next (x ∷ xs) (r .here) → Gram (suc d) p (x ∷ xs) w
     → ((op : ℕ) → operatorOf (r .here .kind) ≡ some op → leftLevel op < p) → Looped d p x xs (w ++ []) r r
-looped-here d p x xs w r h g i = record { zs = []; split = refl; lasts = rw (append-nil xs) h; reads = rw (append-nil xs, append-nil w) g; stop = i }
-
-line-end-none : (k : Kind) → isLineEnd k ≡ true → operatorOf k ≡ none
-unfolding isLineEnd operatorOf isMark
-line-end-none newline h = refl
-line-end-none end h = refl
-line-end-none (mark c) h = absurd (false≢true h)
-line-end-none (word w) h = absurd (false≢true h)
-line-end-none (number v) h = absurd (false≢true h)
-line-end-none (quoted b w) h = absurd (false≢true h)
-line-end-none blank h = absurd (false≢true h)
-line-end-none comment h = absurd (false≢true h)
-line-end-none invalid h = absurd (false≢true h)
-line-end-none (bad n) h = absurd (false≢true h)
-
-operator-mark : (k : Kind) (op : ℕ) → operatorOf k ≡ some op → (c : ℕ) × (k ≡ mark c)
-unfolding operatorOf isMark
-operator-mark (mark c) op h = (c, refl)
-operator-mark newline op h = absurd (no-operator op h)
-operator-mark end op h = absurd (no-operator op h)
-operator-mark (word w) op h = absurd (no-operator op h)
-operator-mark (number v) op h = absurd (no-operator op h)
-operator-mark (quoted b w) op h = absurd (no-operator op h)
-operator-mark blank op h = absurd (no-operator op h)
-operator-mark comment op h = absurd (no-operator op h)
-operator-mark invalid op h = absurd (no-operator op h)
-operator-mark (bad n) op h = absurd (no-operator op h)
+looped-here d p x xs w r h f g i = record { zs = []; split = refl; lasts = rw (append-nil xs) h; reads = rw (append-nil xs, append-nil w) g; follows = rw (append-nil xs) f; stop = i }
 
 last-one : (x : Lexeme) (ys : List Lexeme) → length ys ≤ 0 → Ended x ys → isLineEnd (x .kind) ≡ true
 last-one x [] h e = e
 last-one x (y ∷ ys) h e = absurd (not-suc-le-zero h)
 
-right-suc : (op : ℕ) → rightLevel op ≡ suc (leftLevel op)
-unfolding leftLevel rightLevel
-right-suc op = go (ltb op 2)
-  where
-    go : (c : Bool) → _≡_ {A = ℕ} (if c then 2 else 4) (suc (if c then 1 else 3))
-    go true = refl
-    go false = refl
-
-module _ (n d p : ℕ) (g : ExprSound d) (again : LoopSound n d p) (x : Lexeme) (xs : List Lexeme) (w : List Record) (r : Line)
-    (i : length (r .more) ≤ suc n) (e : Ended (r .here) (r .more)) (op : ℕ) (a : operatorOf (r .here .kind) ≡ some op) (b : p ≤ leftLevel op) (o : Gram (suc d) (leftLevel op) x xs w) where
-  joined : (y : Lexeme) (v : List Record) (ys : List Lexeme) (m q : ℕ) → q ≤ leftLevel op → m ≡ final y ys .to → Gram d (rightLevel op) y ys v
-      → Gram (suc d) q x (xs ++ (r .here ∷ y ∷ ys)) (w ++ (v ++ (IN (x .from) m op ∷ [])))
-  joined y v ys m q h k u =
-      let (c, z) = operator-mark (r .here .kind) op a in
-      rw (k, by-kind (r .here) (mark c) z) (infix′ (r .here .from) (r .here .to) c (ap operatorOf (sym z) ∙ a) h o u)
+module _ (n d p : ℕ) (again : LoopSound n d p) (x : Lexeme) (xs : List Lexeme) (w : List Record) (r : Line)
+    (i : length (r .more) ≤ suc n) (op : ℕ) (a : operatorOf (r .here .kind) ≡ some op) (b : p ≤ leftLevel op) (o : Gram (suc d) (leftLevel op) (x ∷ xs) w) where
+  both : (y : Lexeme) (v : List Record) (ys : List Lexeme) (m q : ℕ) → q ≤ leftLevel op → m ≡ endOf (y ∷ ys) → Gram d (rightLevel op) (y ∷ ys) v
+      → Gram (suc d) q (x ∷ (xs ++ (r .here ∷ y ∷ ys))) (w ++ (v ++ (IN (x .from) m op ∷ [])))
+  unfolding startOf
+  both y v ys m q h k u = rw k (joined-gram (r .here) op q a h o u)
 
   widened : (y : Lexeme) (zs : List Lexeme) → r .more ≡ y ∷ zs → (v : List Record) (s : Line) (q : Passed d (rightLevel op) y zs v s) (v′ : List Record) (t : Line)
       → Looped d p x (xs ++ (r .here ∷ y ∷ q .xs)) ((w ++ (v ++ (IN (x .from) (s .last) op ∷ []))) ++ v′) s t → Looped d p x xs (w ++ (v ++ (IN (x .from) (s .last) op ∷ v′))) r t
@@ -559,9 +641,10 @@ module _ (n d p : ℕ) (g : ExprSound d) (again : LoopSound n d p) (x : Lexeme) 
       let A : List Lexeme = r .here ∷ y ∷ q .xs in
       record {
         zs = A ++ k .zs;
-        split = ap (λ (l : List Lexeme). r .here ∷ l) (h ∙ ap (λ (l : List Lexeme). y ∷ l) (q .split ∙ ap (λ (l : List Lexeme). q .xs ++ l) (k .split) ∙ sym (append-assoc (q .xs) (k .zs) (t .here ∷ t .more))));
+        split = ap (λ (l : List Lexeme). r .here ∷ l) (h ∙ ap (λ (l : List Lexeme). y ∷ l) (q .split ∙ ap (λ (l : List Lexeme). q .xs ++ l) (k .split) ∙ sym (append-assoc (q .xs) (k .zs) (leftOf t))));
         lasts = rw (append-assoc xs A (k .zs)) at (k .lasts);
         reads = rw (append-assoc xs A (k .zs), append-assoc w (v ++ (IN (x .from) (s .last) op ∷ [])) v′, append-assoc v (IN (x .from) (s .last) op ∷ []) v′) at (k .reads);
+        follows = rw (append-assoc xs A (k .zs)) at (k .follows);
         stop = k .stop;
       }
 
@@ -570,47 +653,226 @@ module _ (n d p : ℕ) (g : ExprSound d) (again : LoopSound n d p) (x : Lexeme) 
   unfolding LoopSound passed write _>>=_ _>>_ thence
   round y zs h j v s q =
       let ys : List Lexeme = q .xs in
-      let long : length (r .more) ≡ suc (length ys + suc (length (s .more))) = ap length h ∙ ap suc (ap length (q .split) ∙ length-append ys (s .here ∷ s .more)) in
+      let (F, f) = which-operator (which (r .here) op a) in
+      let long : length (r .more) ≡ suc (length ys + suc (length (s .more))) = ap length h ∙ ap suc (ap length (q .split) ∙ length-append ys (leftOf s)) in
       strip (after-post (IN (x .from) (s .last) op ∷ []) (post-map (λ v′ _ t k. widened y zs h v s q v′ t k)
       (again x (xs ++ (r .here ∷ y ∷ ys)) (w ++ (v ++ (IN (x .from) (s .last) op ∷ []))) s (omega arith) (ended-suffix y ys (s .here) (s .more) (rw (q .split) at j))
-      (q .lasts ∙ ap (λ (z : Lexeme). z .to) (sym (final-append x xs (r .here) (y ∷ ys) ∙ final-two (r .here) y ys))) (joined y v ys (s .last) p b (q .lasts) (q .reads)) (λ op′ u. joined y v ys (s .last) (leftLevel op′) (omega (arith, q .stop op′ u, right-suc op)) (q .lasts) (q .reads)))))
+      (q .lasts ∙ sym (end-behind (x ∷ xs) (r .here) (y ∷ ys) (passed-fine q)))
+      (behind-next (x ∷ xs) (r .here) (y ∷ ys) (s .here) (f .no-dollar) (q .follows))
+      (both y v ys (s .last) p b (q .lasts) (q .reads))
+      (λ op′ u. both y v ys (s .last) (leftLevel op′) (omega (arith, q .stop op′ u, f .lefts, f .rights)) (q .lasts) (q .reads)))))
 
 Turn : ℕ → ℕ → ℕ → ℕ → ℕ → Reader Line (Unit {0})
 Turn n d p f op = next >> (expr d (rightLevel op) >> (passed >>= λ t. (write (IN f t op) >> infixes n (expr d) p f)))
 
 module _ (n d p : ℕ) (g : ExprSound d) (again : LoopSound n d p) (x : Lexeme) (xs : List Lexeme) (w : List Record) (r : Line)
-    (i : length (r .more) ≤ suc n) (e : Ended (r .here) (r .more)) (l : r .last ≡ final x xs .to) (m : Gram (suc d) p x xs w)
-    (o : (op : ℕ) → operatorOf (r .here .kind) ≡ some op → Gram (suc d) (leftLevel op) x xs w) where
+    (i : length (r .more) ≤ suc n) (e : Ended (r .here) (r .more)) (l : r .last ≡ endOf (x ∷ xs)) (f : Next (x ∷ xs) (r .here)) (m : Gram (suc d) p (x ∷ xs) w)
+    (o : (op : ℕ) → operatorOf (r .here .kind) ≡ some op → Gram (suc d) (leftLevel op) (x ∷ xs) w) where
   turned : (op : ℕ) → operatorOf (r .here .kind) ≡ some op → (c : Bool) → ltb (leftLevel op) p ≡ c
       → Post (λ v _ t. Looped d p x xs (w ++ v) r t) (if_then_else_ {A = Reader Line (Unit {0})} c (return tt) (Turn n d p (x .from) op) r)
   unfolding return Turn ExprSound _>>_ _>>=_
-  turned op a true h = holds (looped-here d p x xs w r l m (λ op′ u. rw (some-inj (sym u ∙ a)) (ltb-true (leftLevel op) p h)))
+  turned op a true h = holds (looped-here d p x xs w r l f m (λ op′ u. rw (some-inj (sym u ∙ a)) (ltb-true (leftLevel op) p h)))
   turned op a false h =
-      let (c, z) = operator-mark (r .here .kind) op a in
-      next-then _ (r .last) (r .here) (r .more) (mark-inside (r .here) c z) e (λ y zs j k. thence-post (g (rightLevel op) (r .here .to) y zs k)
-      (λ v _ s q. round n d p g again x xs w r i e op a (ltb-false (leftLevel op) p h) (o op a) y zs j k v s q))
+      next-then _ (r .last) (r .here) (r .more) (operator-inside (r .here .kind) op a) e (λ y zs j k _. thence-post (g (rightLevel op) (r .here .to) y zs k)
+      (λ v _ s q. round n d p again x xs w r i op a (ltb-false (leftLevel op) p h) (o op a) y zs j k v s q))
 
   looked : (q : Option ℕ) → operatorOf (r .here .kind) ≡ q
       → Post (λ v _ s. Looped d p x xs (w ++ v) r s) (maybe q (return tt) (λ op. if ltb (leftLevel op) p then (return tt) else (Turn n d p (x .from) op)) r)
   unfolding return
-  looked none u = holds (looped-here d p x xs w r l m (λ op u′. absurd (no-operator op (sym u ∙ u′))))
+  looked none u = holds (looped-here d p x xs w r l f m (λ op u′. absurd (no-operator op (sym u ∙ u′))))
   looked (some op) u = turned op u (ltb (leftLevel op) p) refl
 
 loop-sound : (n d p : ℕ) → ExprSound d → LoopSound n d p
 unfolding LoopSound infixes return kind _>>=_ thence Turn
-loop-sound zero d p g x xs w r i e h m o =
-    holds (looped-here d p x xs w r h m (λ op u. absurd (no-operator op (sym (line-end-none (r .here .kind) (last-one (r .here) (r .more) i e)) ∙ u))))
-loop-sound (suc n) d p g x xs w r i e h m o = strip (looked n d p g (loop-sound n d p g) x xs w r i e h m o (operatorOf (r .here .kind)) refl)
+loop-sound zero d p g x xs w r i e h f m o =
+    holds (looped-here d p x xs w r h f m (λ op u. absurd (true≢false (sym (last-one (r .here) (r .more) i e) ∙ operator-inside (r .here .kind) op u))))
+loop-sound (suc n) d p g x xs w r i e h f m o = strip (looked n d p g (loop-sound n d p g) x xs w r i e h f m o (operatorOf (r .here .kind)) refl)
 
--- THE READER IS SOUND: what it passes is an expression of its level, listed as the reader wrote it, and no operator of its level is behind.
-pub expr-sound : (d : ℕ) → ExprSound d
+-- what the reader passes is an expression of its level, listed as the reader wrote it, and no operator of its level is behind
+expr-sound : (d : ℕ) → ExprSound d
 unfolding ExprSound expr refuseHere ahead left _>>=_ _>>_ thence LoopSound
 expr-sound zero p l x ys e = fails
-expr-sound (suc d) p l x ys e = strip (thence-post (primary-sound d l (x .from) (x .to) (x .kind) ys (expr-sound d) e)
+expr-sound (suc d) p l x ys e = strip (thence-post (primary-sound d l x ys (expr-sound d) e)
     (λ w _ s q. strip (post-map (λ v _ t k. record {
       xs = q .xs ++ k .zs;
-      split = q .split ∙ ap (λ (l : List Lexeme). q .xs ++ l) (k .split) ∙ sym (append-assoc (q .xs) (k .zs) (t .here ∷ t .more));
+      split = q .split ∙ ap (λ (l : List Lexeme). q .xs ++ l) (k .split) ∙ sym (append-assoc (q .xs) (k .zs) (leftOf t));
       lasts = k .lasts;
       reads = k .reads;
+      follows = k .follows;
       stop = k .stop;
-    }) (loop-sound (length (s .more)) d p (expr-sound d) x (q .xs) w s (le-refl (length (s .more))) (ended-suffix x (q .xs) (s .here) (s .more) (rw (q .split) at e)) (q .lasts) (q .reads p) (λ op u. q .reads (leftLevel op))))))
+    }) (loop-sound (length (s .more)) d p (expr-sound d) x (q .xs) w s (le-refl (length (s .more))) (ended-suffix x (q .xs) (s .here) (s .more) (rw (q .split) at e)) (q .lasts) (q .follows) (began-gram q p) (λ op u. began-gram q (leftLevel op))))))
+
+-- ONE TREE. A listing is its tree in reverse Polish: with a stack of trees it gives the tree back.
+onto : Record → List Tree → List Tree
+onto (VC f t v) l = constant f t v ∷ l
+onto (VL f t) l = name f t ∷ l
+onto (VI f t) l = dollar f t ∷ l
+onto (VS f t) l = dollars f t ∷ l
+onto (PF f t op) [] = []
+onto (PF f t op) (a ∷ l) = signed f t op a ∷ l
+onto (IN f t op) [] = []
+onto (IN f t op) (b ∷ []) = []
+onto (IN f t op) (b ∷ a ∷ l) = joined f t op a b ∷ l
+onto (ST p) l = l
+onto (OR f t r) l = l
+onto (OS f t s) l = l
+onto (OI f t) l = l
+onto (OF f t) l = l
+onto (OD f t z s) l = l
+onto (OX f t e d z s) l = l
+onto (LL f t) l = l
+onto (LI f t o n f′ t′) l = l
+onto (LD f t d) l = l
+onto (LC f t) l = l
+onto LT l = l
+
+stack : List Record → List Tree → List Tree
+stack [] l = l
+stack (r ∷ w) l = stack w (onto r l)
+
+stack-append : (w v : List Record) (l : List Tree) → stack (w ++ v) l ≡ stack v (stack w l)
+unfolding stack
+stack-append [] v l = refl
+stack-append (r ∷ w) v l = stack-append w v (onto r l)
+
+stack-tree : (a : Tree) (l : List Tree) → stack (recordsOf a) l ≡ a ∷ l
+unfolding recordsOf stack onto
+stack-tree (constant f t v) l = refl
+stack-tree (name f t) l = refl
+stack-tree (dollar f t) l = refl
+stack-tree (dollars f t) l = refl
+stack-tree (signed f t op a) l = rw (stack-append (recordsOf a) (PF f t op ∷ []) l, stack-tree a l)
+stack-tree (joined f t op a b) l = rw (
+  stack-append (recordsOf a) (recordsOf b ++ (IN f t op ∷ [])) l,
+  stack-append (recordsOf b) (IN f t op ∷ []) (stack (recordsOf a) l),
+  stack-tree a l,
+  stack-tree b (a ∷ l),
+)
+
+same-tree : (a b : Tree) → recordsOf a ≡ recordsOf b → a ≡ b
+same-tree a b h =
+    let i : a ∷ [] ≡ b ∷ [] = sym (stack-tree a []) ∙ ap (λ (w : List Record). stack w []) h ∙ stack-tree b [] in
+    cc
+
+-- a derivation goes through at any greater depth, and as a sum
+nested : {d : ℕ} {l : Level} {xs : List Lexeme} {a : Tree} → Derives d l xs a → Derives (suc d) l xs a
+nested (atom h) = atom h
+nested (parentheses m g n) = parentheses m (nested g) n
+nested (prefix o g) = prefix o (nested g)
+nested (multiplied g o g′) = multiplied (nested g) o (nested g′)
+nested (added g o g′) = added (nested g) o (nested g′)
+nested (oneOperand g) = oneOperand (nested g)
+nested (oneProduct g) = oneProduct (nested g)
+
+as-sum : {d : ℕ} {xs : List Lexeme} {a : Tree} (k : ℕ) (l : Level) → Derives d l xs a → Derives (d + k) sum xs a
+as-sum {d} zero sum g = rw (add-zero d) g
+as-sum {d} zero product g = rw (add-zero d) (oneProduct g)
+as-sum {d} zero operand g = rw (add-zero d) (oneProduct (oneOperand g))
+as-sum {d} (suc k) l g = rw (add-suc d k) (nested (as-sum k l g))
+
+line-ends : (p : ℕ) (xs : List Lexeme) → Ends xs (endAt p .here)
+unfolding refusedAs operatorOf isMark
+line-ends p xs = record { arrives = refl; noOperator = refl; noDollar = λ _. refl }
+
+-- the reader gives one listing
+unique : (d e : ℕ) (l m : Level) (xs : List Lexeme) (a b : Tree) → Derives d l xs a → Derives e m xs b → a ≡ b
+unique d e l m xs a b g h =
+    let g′ : Derives (d + e) sum xs a = as-sum e l g in
+    let h′ : Derives (d + e) sum xs b = rw (add-comm d e) (as-sum d m h) in
+    let i = reader-complete g′ 0 (endAt 0 .here) [] (line-ends 0 xs) in
+    let j = reader-complete h′ 0 (endAt 0 .here) [] (line-ends 0 xs) in
+    same-tree a b (cc (i, j))
+
+-- ON LINES OF A SOURCE: their last token ends the line.
+all-at : (above : List Row) (row : Row) (below : List Row) → AllEnded (above ++ (row ∷ below)) → Ended (row .first) (row .more)
+all-at [] row below h = h .0
+all-at (r ∷ above) row below h = all-at above row below (h .1)
+
+left-ended : (passed : List Lexeme) (x : Lexeme) (xs : List Lexeme) (z : Lexeme) (zs : List Lexeme) → x ∷ xs ≡ passed ++ (z ∷ zs) → Ended x xs → Ended z zs
+left-ended [] x xs z zs h e =
+    let i : x ≡ z = cc in
+    let j : xs ≡ zs = cc in
+    subst₂ Ended i j e
+left-ended (y ∷ passed) x xs z zs h e =
+    let j : xs ≡ passed ++ (z ∷ zs) = cc in
+    ended-suffix x passed z zs (rw j at e)
+
+line-ended : {p : ℕ} {s : List ℕ} {line : Line} → LineOf p s line → Ended (line .here) (line .more)
+line-ended {p} {s} {line} o = left-ended (o .passed) (o .row .first) (o .row .more) (line .here) (line .more) (o .split)
+    (all-at (o .above) (o .row) (o .below) (rw (o .among) at (rows-all (tokensFrom p 0 s) (tokens-finished p 0 s))))
+
+none-at : (k : Kind) → ((op : ℕ) → operatorOf k ≡ some op → leftLevel op < 0) → operatorOf k ≡ none
+none-at k h = go (operatorOf k) h
+  where
+    go : (o : Option ℕ) → ((op : ℕ) → o ≡ some op → leftLevel op < 0) → o ≡ none
+    go none h = refl
+    go (some op) h = absurd (not-suc-le-zero (h op refl))
+
+passes : (line line′ : Line) (a : Tree) → Begins line a line′ → expression line ≡ done (recordsOf a) tt line′
+unfolding expression
+passes line line′ a b =
+    ap (λ (xs : List Lexeme). expr 32 0 (lineAt (line .last) xs)) (b .split)
+    ∙ reader-complete (b .derived) (line .last) (line′ .here) (line′ .more) (b .ends)
+    ∙ ap (λ (t : ℕ). done (recordsOf a) tt (on t (line′ .here) (line′ .more))) (sym (b .last))
+
+derives : (p : ℕ) (s : List ℕ) (line line′ : Line) (w : List Record) → LineOf p s line → expression line ≡ done w tt line′ → (a : Tree) × (w ≡ recordsOf a) × Begins line a line′
+unfolding expression ExprSound
+derives p s line line′ w o h =
+    let q : Passed 32 0 (line .here) (line .more) w line′ = post-done (rw h at (expr-sound 32 0 (line .last) (line .here) (line .more) (line-ended o))) in (
+      q .reads .tree,
+      q .reads .listed,
+      record {
+        taken = line .here ∷ q .xs;
+        split = ap (λ (l : List Lexeme). line .here ∷ l) (q .split);
+        derived = q .reads .derived sum (omega arith);
+        last = q .lasts;
+        ends = record { arrives = q .follows .fine; noOperator = none-at (line′ .here .kind) (q .stop); noDollar = q .follows .no-dollar };
+      },
+    )
+
+-- THE CLAIM
+pub one-reading : OneReading
+one-reading = record { passes = passes; derives = derives; unique = unique }
+
+-- SAMPLES, on the tokens of a source: `8/4/2` groups to the left, `(1)+2` begins at its parenthesis, and of `5 $` the 5 is passed.
+abbrev from0 : String → Line
+from0 s = lineAt 0 (tokens (bytes s))
+
+abbrev byteAt : ℕ → Kind → Lexeme
+byteAt p k = record { from = p; to = suc p; kind = k }
+
+digit : {d : ℕ} (p v : ℕ) → Derives (suc d) operand (byteAt p (number v) ∷ []) (constant p (suc p) v)
+digit p v = atom (aNumber refl)
+
+pub left-grouped : Begins (from0 "8/4/2") (joined 0 5 3 (joined 0 3 3 (constant 0 1 8) (constant 2 3 4)) (constant 4 5 2)) (endAt 5)
+unfolding openLexemes startOf endOf
+left-grouped = record {
+  taken = byteAt 0 (number 8) ∷ byteAt 1 (mark 47) ∷ byteAt 2 (number 4) ∷ byteAt 3 (mark 47) ∷ byteAt 4 (number 2) ∷ [];
+  split = refl;
+  derived = oneProduct (multiplied {x = byteAt 3 (mark 47)} (multiplied {x = byteAt 1 (mark 47)} (oneOperand (digit 0 8)) (over (record { marked = refl })) (as-level _ (digit 2 4)))
+      (over (record { marked = refl })) (as-level _ (digit 4 2)));
+  last = refl;
+  ends = line-ends 5 _;
+}
+
+pub from-parenthesis : Begins (from0 "(1)+2") (joined 0 5 0 (constant 1 2 1) (constant 4 5 2)) (endAt 5)
+unfolding openLexemes startOf endOf
+from-parenthesis = record {
+  taken = byteAt 0 (mark 40) ∷ byteAt 1 (number 1) ∷ byteAt 2 (mark 41) ∷ byteAt 3 (mark 43) ∷ byteAt 4 (number 2) ∷ [];
+  split = refl;
+  derived = added {x = byteAt 3 (mark 43)}
+      (oneProduct (oneOperand (parentheses {x = byteAt 0 (mark 40)} {y = byteAt 2 (mark 41)} (record { marked = refl }) (oneProduct (oneOperand (digit 1 1))) (record { marked = refl }))))
+      (plus (record { marked = refl })) (oneOperand (digit 4 2));
+  last = refl;
+  ends = line-ends 5 _;
+}
+
+pub before-dollar : Begins (from0 "5 $") (constant 0 1 5) (on 1 (byteAt 2 (mark 36)) (endAt 3 .here ∷ []))
+unfolding openLexemes openText refusedAs operatorOf isMark loneDollar endOf
+before-dollar = record {
+  taken = byteAt 0 (number 5) ∷ [];
+  split = refl;
+  derived = oneProduct (oneOperand (digit 0 5));
+  last = refl;
+  ends = record { arrives = refl; noOperator = refl; noDollar = λ h. absurd (false≢true h) };
+}
