@@ -20,6 +20,7 @@ pub mod Ranged
 pub mod Cost
 pub mod CostState
 pub mod Cut
+pub mod Counters
 pub mod Exchange
 pub mod Listing
 pub mod Calls

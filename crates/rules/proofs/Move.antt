@@ -258,7 +258,7 @@ module _ (f : ℕ → ℕ) (P : Line → Type 0) (closed : (s : Line) → P s �
         whether (ltb (leftLevel op) level) (returns same tt) (andThen next-shifts (andThen (each (rightLevel op))
         (bind _ passed-shifts λ t. andThen (writes _) (infixes-shifts n level p))))
 
-  expr-shifts : (d level : ℕ) → Shifts f P same (expr d level) (expr d level)
+  pub expr-shifts : (d level : ℕ) → Shifts f P same (expr d level) (expr d level)
   unfolding expr moveToken
   expr-shifts zero level = here-shifts same 3 refl
   expr-shifts (suc d) level = bind _ ahead-shifts λ x. andThen (primary-shifts (expr-shifts d)) (bind _ left-shifts λ n.

@@ -10,3 +10,4 @@ pub mod Decode
 pub mod WellFormed
 pub mod Patch
 pub mod Known
+pub mod Claims

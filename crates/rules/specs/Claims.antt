@@ -1,0 +1,26 @@
+-- What the definitions rely on, and what a reader of them may ask. The laws are proved in proofs/.
+use mathlib.Core.Path.{_≡_}
+use mathlib.Core.List.{List, _∷_, _++_}
+use Prim.Native.Nat.{ℕ, suc, _≤_}
+use lib.ListN.{length}
+use Rattle.rules.specs.Lexemes.{tokensFrom}
+use Rattle.rules.specs.Records.{Record}
+use Rattle.rules.specs.Reader.{Line, done, next}
+use Rattle.rules.specs.Expressions.{infixes, expr}
+use Rattle.rules.specs.Operands.{operandSized}
+use Rattle.rules.specs.Statements.{Row, rows, firstOf, literals, readRows}
+
+-- The lines that a reading comes to, of bytes that stand from place p on: one of their rows, and what is left of it token by token.
+pub data Reached (p : ℕ) (s : List ℕ) : Line → Type 0 where
+  first : (above below : List Row) (r : Row) → rows (tokensFrom p 0 s) ≡ above ++ (r ∷ below) → Reached p s (firstOf r)
+  further : {l l′ : Line} (w : List Record) → Reached p s l → next l ≡ done w tt l′ → Reached p s l′
+
+-- The counters never run out: with any larger one than `expr`, `operand`, `dataOf` and `readFrom` hand over, the answer is the same. Each
+-- bound is the one handed over. That of `infixes` asks that the line is one of a source, since it counts on the line end.
+pub record CountersSuffice (table : List ℕ) : Type 0 where
+  pub ofInfixes : {p : ℕ} {s : List ℕ} {l : Line} → Reached p s l → (n d level f : ℕ) → length (l .more) ≤ n
+      → infixes n (expr d) level f l ≡ infixes (length (l .more)) (expr d) level f l
+  pub ofOperands : (l : Line) (n size : ℕ) → suc (length (l .more)) ≤ n → operandSized n size l ≡ operandSized (suc (length (l .more))) size l
+  pub ofLiterals : (l : Line) (n width : ℕ) → suc (length (l .more)) ≤ n → literals n width l ≡ literals (suc (length (l .more))) width l
+  pub ofStatements : (p : ℕ) (s : List ℕ) (n : ℕ) → suc (length s) ≤ n
+      → readRows table n (rows (tokensFrom p 0 s)) ≡ readRows table (suc (length s)) (rows (tokensFrom p 0 s))
