@@ -17,6 +17,7 @@ pub mod Shape
 pub mod ShapeState
 pub mod LexSound
 pub mod Ranged
+pub mod Places
 pub mod Cost
 pub mod CostState
 pub mod Cut

@@ -1,14 +1,17 @@
 -- What the definitions rely on, and what a reader of them may ask. The laws are proved in proofs/.
 use mathlib.Core.Path.{_≡_}
-use mathlib.Core.List.{List, _∷_, _++_}
-use Prim.Native.Nat.{ℕ, suc, _≤_}
+use mathlib.Core.Bool.{true}
+use mathlib.Core.List.{List, [], _∷_, _++_, map}
+use Prim.Native.Nat.{ℕ, suc, _+_, _-_, _≤_}
 use lib.ListN.{length}
 use Rattle.rules.specs.Lexemes.{tokensFrom}
-use Rattle.rules.specs.Records.{Record}
+use Rattle.rules.specs.Records.{Record, moveRecord, places}
 use Rattle.rules.specs.Reader.{Line, done, next}
 use Rattle.rules.specs.Expressions.{infixes, expr}
 use Rattle.rules.specs.Operands.{operandSized}
 use Rattle.rules.specs.Statements.{Row, rows, firstOf, literals, readRows}
+use Rattle.rules.specs.WellFormed.{wellFormed}
+use Rattle.rules.specs.Patch.{recordsOn}
 
 -- The lines that a reading comes to, of bytes that stand from place p on: one of their rows, and what is left of it token by token.
 pub data Reached (p : ℕ) (s : List ℕ) : Line → Type 0 where
@@ -24,3 +27,16 @@ pub record CountersSuffice (table : List ℕ) : Type 0 where
   pub ofLiterals : (l : Line) (n width : ℕ) → suc (length (l .more)) ≤ n → literals n width l ≡ literals (suc (length (l .more))) width l
   pub ofStatements : (p : ℕ) (s : List ℕ) (n : ℕ) → suc (length s) ≤ n
       → readRows table n (rows (tokensFrom p 0 s)) ≡ readRows table (suc (length s)) (rows (tokensFrom p 0 s))
+
+-- Something holds of each element of a list.
+abbrev pub Each : {A : Type 0} → (A → Type 0) → List A → Type 0
+Each P [] = Unit {0}
+Each P (x ∷ xs) = P x × Each P xs
+
+-- `exchanged` moves exactly by q − p: what moves are the places, those from the first statement with place a + p or above on are all at
+-- least a + p in a well-formed listing, and so k + q - p has p to take away.
+pub record MovesExactly : Type 0 where
+  pub moved : (m : ℕ → ℕ) (r : Record) → places (moveRecord m r) ≡ map m (places r)
+  pub behind : (n : ℕ) (rs : List Record) → wellFormed n rs ≡ true → (a : ℕ) → Each (λ r. Each (λ k. a ≤ k) (places r)) (recordsOn a rs)
+  pub exact : (n : ℕ) (rs : List Record) → wellFormed n rs ≡ true → (a p q : ℕ)
+      → Each (λ r. Each (λ k. k + q - p + p ≡ k + q) (places r)) (recordsOn (a + p) rs)
