@@ -1,4 +1,4 @@
--- What is claimed of the table. The law is proved in proofs/.
+-- What is claimed of the table. The law is proved in proofs/Operations.
 use mathlib.Core.Path.{_≡_}
 use mathlib.Core.List.{List}
 use mathlib.Core.Option.{some}

@@ -25,6 +25,7 @@ pub mod Counters
 pub mod Exchange
 pub mod Listing
 pub mod Calls
+pub mod Values
 pub mod Alone
 pub mod Forward
 pub mod Demand3

@@ -1,15 +1,17 @@
--- What the definitions rely on, and what a reader of them may ask. The laws are proved in proofs/.
+-- What the definitions rely on. The laws are proved in proofs/: Counters, Places, Values.
 use mathlib.Core.Path.{_≡_}
 use mathlib.Core.Bool.{true}
 use mathlib.Core.List.{List, [], _∷_, _++_, map}
 use Prim.Native.Nat.{ℕ, suc, _+_, _-_, _≤_}
 use lib.ListN.{length}
+use Rattle.names.specs.Table.{operations}
 use Rattle.rules.specs.Lexemes.{tokensFrom}
-use Rattle.rules.specs.Records.{Record, moveRecord, places}
+use Rattle.rules.specs.Records.{Record, VC, moveRecord, places}
 use Rattle.rules.specs.Reader.{Line, done, next}
 use Rattle.rules.specs.Expressions.{infixes, expr}
 use Rattle.rules.specs.Operands.{operandSized}
 use Rattle.rules.specs.Statements.{Row, rows, firstOf, literals, readRows}
+use Rattle.rules.specs.Calls.{gives, fullRead}
 use Rattle.rules.specs.WellFormed.{wellFormed}
 use Rattle.rules.specs.Patch.{recordsOn}
 
@@ -18,8 +20,8 @@ pub data Reached (p : ℕ) (s : List ℕ) : Line → Type 0 where
   first : (above below : List Row) (r : Row) → rows (tokensFrom p 0 s) ≡ above ++ (r ∷ below) → Reached p s (firstOf r)
   further : {l l′ : Line} (w : List Record) → Reached p s l → next l ≡ done w tt l′ → Reached p s l′
 
--- The counters never run out: with any larger one than `expr`, `operand`, `dataOf` and `readFrom` hand over, the answer is the same. Each
--- bound is the one handed over. That of `infixes` asks that the line is one of a source, since it counts on the line end.
+-- The counters never run out: any larger one than what `expr`, `operand`, `dataOf` and `readFrom` hand over, which stands on the right, gives
+-- the same answer. For `infixes` the line has to be one of a source, which a line end ends.
 pub record CountersSuffice (table : List ℕ) : Type 0 where
   pub ofInfixes : {p : ℕ} {s : List ℕ} {l : Line} → Reached p s l → (n d level f : ℕ) → length (l .more) ≤ n
       → infixes n (expr d) level f l ≡ infixes (length (l .more)) (expr d) level f l
@@ -40,3 +42,8 @@ pub record MovesExactly : Type 0 where
   pub behind : (n : ℕ) (rs : List Record) → wellFormed n rs ≡ true → (a : ℕ) → Each (λ r. Each (λ k. a ≤ k) (places r)) (recordsOn a rs)
   pub exact : (n : ℕ) (rs : List Record) → wellFormed n rs ≡ true → (a p q : ℕ)
       → Each (λ r. Each (λ k. k + q - p + p ≡ k + q) (places r)) (recordsOn (a + p) rs)
+
+-- A value that is read is below 2³¹, so the 32 bits of VC's third field, read as signed, are the value itself.
+pub record ValuesFit : Type 0 where
+  pub below : (source : List ℕ) (room : ℕ) (before behind : List Record) (f t v : ℕ)
+      → fullRead operations source room ≡ gives (before ++ (VC f t v ∷ behind)) → v ≤ 2147483647

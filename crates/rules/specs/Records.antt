@@ -6,7 +6,7 @@ use Rattle.lexer.specs.Text.{bytes, openText}
 
 pub data Record : Type 0 where
   ST : (place : ℕ) → Record  -- a statement, by the place of its first token
-  VC : (f t value : ℕ) → Record  -- a number
+  VC : (f t value : ℕ) → Record  -- a number; its field's 32 bits are read as signed (Claims: ValuesFit; `printing`: `signed`)
   VL VI VS : (f t : ℕ) → Record  -- a name, `$`, `$$`
   PF IN : (f t op : ℕ) → Record  -- prefix and infix: 0 +, 1 -, 2 *, 3 /
   OR : (f t register : ℕ) → Record  -- byte registers 0 to 7, word registers 8 to 15
