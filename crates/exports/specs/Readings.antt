@@ -31,7 +31,7 @@ use Rattle.exports.specs.declared.TokenReading.{TokenReading}
 use Rattle.exports.specs.declared.Valuation.{Valuation}
 use Rattle.exports.specs.Found.{plain, tokenFound}
 
--- a number without a place; 0 is no refusal
+-- a number without a place; 0 is no refusal's (`rules`: Claims, NumbersTell)
 abbrev pub numbered : ℕ → Numbers
 numbered n = record { number = n; from = 0; to = 0; first = 255; second = 255 }
 

@@ -15,6 +15,19 @@ use mir.Facts.{toZ-ofZ, sfits-widen}
 use Rattle.rules.specs.Reader.{nowhere}
 use Rattle.rules.specs.Calls.{gives, refuses}
 use Rattle.rules.specs.Evaluate.{signed32}
+use Rattle.parser.specs.declared.expressions.Operator.the-variants.{Add, Subtract, Multiply, Divide}
+use Rattle.parser.specs.declared.expressions.Operator.{Operator}
+use Rattle.parser.specs.Operators.{operatorNumber, OperatorsFour}
+
+-- no operator has another number than 0 to 3
+operator-low : (op : Operator) → operatorNumber op ≤ 3
+operator-low Add = omega arith
+operator-low Subtract = omega arith
+operator-low Multiply = omega arith
+operator-low Divide = omega arith
+
+pub operators-four : OperatorsFour
+operators-four = record { below = operator-low }
 
 -- how large a result is
 mag-neg : (z : ℤ) → mag (negℤ z) ≤ suc (mag z)

@@ -1,5 +1,5 @@
 -- The declared operators and the answers of their functions, in the numbers of document 01.
-use Prim.Native.Nat.{ℕ}
+use Prim.Native.Nat.{ℕ, _≤_}
 use mathlib.Core.Option.{Option, none, some}
 use lib.IntN.{ℤ}
 use lib.Dec.{ltb}
@@ -21,6 +21,10 @@ operatorNumber Add = 0
 operatorNumber Subtract = 1
 operatorNumber Multiply = 2
 operatorNumber Divide = 3
+
+-- No operator has another number, so `evaluate` is asked for 0 to 3 alone.
+pub record OperatorsFour : Type 0 where
+  pub below : (op : Operator) → operatorNumber op ≤ 3
 
 abbrev pub numberIn : MaybeOperator → Option ℕ
 numberIn (Is op) = some (operatorNumber op)

@@ -4,3 +4,4 @@ pub mod Room
 pub mod Shapes
 pub mod Records
 pub mod Answers
+pub mod Signed

@@ -20,7 +20,7 @@ decimalIn (suc k) n =
 unfoldable pub decimal : ℕ → List ℕ
 decimal n = decimalIn 20 n
 
--- A number of 32 bits, of which the highest is the sign's.
+-- A number of 32 bits, of which the highest is the sign's: the text of the signed number (Claims: PrintsSigned).
 unfoldable pub signed : ℕ → List ℕ
 signed v = if ltb v 2147483648 then (decimal v) else (bytes "-" ++ decimal (4294967296 - v))
 

@@ -9,7 +9,7 @@ use lib.Dec.{eqb, ltb}
 use lib.ListN.{length, length-append}
 use Rattle.lexer.specs.Text.{if_then_else_, maybe, is}
 use Rattle.rules.specs.Records.{Record, listing}
-use Rattle.rules.specs.Reader.{Refusal, at, nowhere, encoding, valuesOf, Answer, done, refused}
+use Rattle.rules.specs.Reader.{at, nowhere, encoding, valuesOf, Answer, done, refused}
 use Rattle.rules.specs.Statements.{State, Outcome, accepted, refusal, outcome, reading}
 use Rattle.rules.specs.Calls.{Result, gives, refuses, unless, tooLong, foreign, ascii, lent, inRoom, listed, fullRead, enough}
 use Rattle.rules.specs.Patch.{linesFrom, bareLine, nearest, isOpen, leavesOpen}

@@ -36,7 +36,7 @@ IsOpen (done w a s) = ⊥
 IsOpen (refused r) = Lack r
 
 pub not-both : (r : Refusal) → Mild r → Lack r → ⊥
-not-both (at n f t) m l = true≢false (sym l ∙ m)
+not-both (at n f t) m l = true≢false (rw l at m)
 not-both (nowhere n) m l = l
 not-both (encoding f t a b) m l = l
 
@@ -379,17 +379,20 @@ module _ (table : List ℕ) where
   abbrev pub Gives : ℕ → List ℕ → Answer State (Unit {0}) → Type 0
   Gives p s a = Begins table (rowsFrom p s) a
 
-  -- THE FULL READ'S FUEL IS ENOUGH: it is the run from its first row.
-  pub gives : (p : ℕ) (s : List ℕ) → Gives p s (readRows table (suc (length s)) (rowsFrom p s))
+  -- THE FULL READ'S FUEL IS ENOUGH: with it, or more, it is the run from its first row.
+  pub gives-with : (p : ℕ) (s : List ℕ) (n : ℕ) → length s ≤ n → Gives p s (readRows table (suc n) (rowsFrom p s))
   unfolding readRows arrive
-  gives p s =
+  gives-with p s n f =
       let (r, rs, e) = some-row p s in
-      rw e (go r rs (refusedAs (r .first .kind)) refl (start-below (length s) r rs (rw e at (all p s)) (omega (arith, ap total (sym e), count p s))))
+      rw e (go r rs (refusedAs (r .first .kind)) refl (start-below n r rs (rw e at (all p s)) (omega (arith, ap total (sym e), count p s))))
     where
-      go : (r : Row) (rs : List Row) (o : Option ℕ) → refusedAs (r .first .kind) ≡ o → Below (length s) (enter r rs)
-          → Begins table (r ∷ rs) (maybe o (statements table (suc (length s)) (enter r rs)) (λ n. refused (at n (r .first .from) (r .first .to))))
-      go r rs none h b = fine h (enough table (length s) (enter r rs) b)
-      go r rs (some n) h b = broken h
+      go : (r : Row) (rs : List Row) (o : Option ℕ) → refusedAs (r .first .kind) ≡ o → Below n (enter r rs)
+          → Begins table (r ∷ rs) (maybe o (statements table (suc n) (enter r rs)) (λ k. refused (at k (r .first .from) (r .first .to))))
+      go r rs none h b = fine h (enough table n (enter r rs) b)
+      go r rs (some k) h b = broken h
+
+  pub gives : (p : ℕ) (s : List ℕ) → Gives p s (readRows table (suc (length s)) (rowsFrom p s))
+  gives p s = gives-with p s (length s) (omega arith)
 
   -- What B's reading, from place n on, has to do with that of A ++ B, where A's gives the first answer and that of A ++ B the second.
   pub data Then (n : ℕ) (B : List ℕ) : Answer State (Unit {0}) → Answer State (Unit {0}) → Type 0 where

@@ -797,7 +797,7 @@ left-ended (y ∷ passed) x xs z zs h e =
     let j : xs ≡ passed ++ (z ∷ zs) = cc in
     ended-suffix x passed z zs (rw j at e)
 
-line-ended : {p : ℕ} {s : List ℕ} {line : Line} → LineOf p s line → Ended (line .here) (line .more)
+pub line-ended : {p : ℕ} {s : List ℕ} {line : Line} → LineOf p s line → Ended (line .here) (line .more)
 line-ended {p} {s} {line} o = left-ended (o .passed) (o .row .first) (o .row .more) (line .here) (line .more) (o .split)
     (all-at (o .above) (o .row) (o .below) (rw (o .among) at (rows-all (tokensFrom p 0 s) (tokens-finished p 0 s))))
 
@@ -832,7 +832,7 @@ derives p s line line′ w o h =
 
 -- THE CLAIM
 pub one-reading : OneReading
-one-reading = record { passes = passes; derives = derives; unique = unique }
+one-reading = record { passes = passes; derives = derives; unique = λ d e l m xs a b g h. let i : a ≡ b = unique d e l m xs a b g h in (i, ap recordsOf i) }
 
 -- SAMPLES, on the tokens of a source: `8/4/2` groups to the left, `(1)+2` begins at its parenthesis, and of `5 $` the 5 is passed.
 abbrev from0 : String → Line

@@ -28,16 +28,16 @@ abbrev Option-map : {A : Type 0} → (A → A) → Option A → Option A
 Option-map g none = none
 Option-map g (some a) = some (g a)
 
--- A refusal other than 34, which alone depends on the lines below.
+-- A refusal other than 34, which alone depends on the lines below; and no refusal's number is 0.
 abbrev pub Mild : Refusal → Type 0
-Mild (at n f t) = eqb n 34 ≡ false
-Mild (nowhere n) = eqb n 34 ≡ false
+Mild (at n f t) = (eqb n 34 || eqb n 0) ≡ false
+Mild (nowhere n) = (eqb n 34 || eqb n 0) ≡ false
 Mild (encoding f t a b) = Unit {0}
 
 abbrev pub Any : Refusal → Type 0
 Any r = Unit {0}
 
-pub bad-mild : (k : Kind) (n : ℕ) → refusedAs k ≡ some n → eqb n 34 ≡ false
+pub bad-mild : (k : Kind) (n : ℕ) → refusedAs k ≡ some n → (eqb n 34 || eqb n 0) ≡ false
 unfolding refusedAs
 bad-mild (bad true) n h = let y : 31 ≡ n = cc in rw (← y)
 bad-mild (bad false) n h = let y : 30 ≡ n = cc in rw (← y)
@@ -208,11 +208,11 @@ module _ (f : ℕ → ℕ) (P : Line → Type 0) (closed : (s : Line) → P s �
   unfolding left carry moveLine
   left-shifts = record { law = λ s. ap (λ (n : ℕ). done [] n ((moveLine f) s)) (length-map (s .more) (moveToken f)); keeps = λ s h. h }
 
-  pub here-shifts : {A : Type 0} (g : A → A) (n : ℕ) → eqb n 34 ≡ false → Shifts f P g (refuseHere n) (refuseHere n)
+  pub here-shifts : {A : Type 0} (g : A → A) (n : ℕ) → (eqb n 34 || eqb n 0) ≡ false → Shifts f P g (refuseHere n) (refuseHere n)
   unfolding refuseHere carry moveLine moveToken moveRefusal
   here-shifts g n m = record { law = λ s. refl; keeps = λ s h. m }
 
-  pub expect-shifts : (a : Char) (n : ℕ) → eqb n 34 ≡ false → Shifts f P same (expect a n) (expect a n)
+  pub expect-shifts : (a : Char) (n : ℕ) → (eqb n 34 || eqb n 0) ≡ false → Shifts f P same (expect a n) (expect a n)
   unfolding expect
   expect-shifts a n m = bind _ kind-shifts λ k. whether (isMark a k) next-shifts (here-shifts same n m)
 
@@ -258,7 +258,7 @@ module _ (f : ℕ → ℕ) (P : Line → Type 0) (closed : (s : Line) → P s �
         whether (ltb (leftLevel op) level) (returns same tt) (andThen next-shifts (andThen (each (rightLevel op))
         (bind _ passed-shifts λ t. andThen (writes _) (infixes-shifts n level p))))
 
-  expr-shifts : (d level : ℕ) → Shifts f P same (expr d level) (expr d level)
+  pub expr-shifts : (d level : ℕ) → Shifts f P same (expr d level) (expr d level)
   unfolding expr moveToken
   expr-shifts zero level = here-shifts same 3 refl
   expr-shifts (suc d) level = bind _ ahead-shifts λ x. andThen (primary-shifts (expr-shifts d)) (bind _ left-shifts λ n.

@@ -180,7 +180,7 @@ passed-mild = gentle (passed-shifts same)
 pub left-mild : Gentle left
 left-mild = gentle (left-shifts same)
 
-pub here-mild : {A : Type 0} (n : ℕ) → eqb n 34 ≡ false → Gentle (refuseHere {A = A} n)
+pub here-mild : {A : Type 0} (n : ℕ) → (eqb n 34 || eqb n 0) ≡ false → Gentle (refuseHere {A = A} n)
 here-mild n h = gentle (λ P c. here-shifts same P c same n h)
 
 pub expression-mild : Gentle expression

@@ -41,7 +41,7 @@ pub record Below (n : ℕ) (s : State) : Type 0 where
   pub others : AllEnded (s .below)
 
 module _ (n : ℕ) where
-  closed : (l : Line) (rs : List Row) → Below n (record { line = l; below = rs }) → Stays (λ t. Below n (record { line = t; below = rs })) Mild (next l)
+  pub closed : (l : Line) (rs : List Row) → Below n (record { line = l; below = rs }) → Stays (λ t. Below n (record { line = t; below = rs })) Mild (next l)
   unfolding next step size isLineEnd
   closed l rs h = stepped (l .more) (h .few) (h .ended)
     where
@@ -60,7 +60,7 @@ abbrev pub Lower : ℕ → State → Type 0
 Lower zero s = ⊥
 Lower (suc n) s = Below n s
 
-next-falls : (n l : ℕ) (x : Lexeme) (ys : List Lexeme) (rs : List Row) → Below n (record { line = record { last = l; here = x; more = ys }; below = rs }) → isLineEnd (x .kind) ≡ false
+pub next-falls : (n l : ℕ) (x : Lexeme) (ys : List Lexeme) (rs : List Row) → Below n (record { line = record { last = l; here = x; more = ys }; below = rs }) → isLineEnd (x .kind) ≡ false
     → Stays (Lower n) Any (inLine next (record { line = record { last = l; here = x; more = ys }; below = rs }))
 unfolding inLine over next step arrive size
 next-falls n l x [] rs h i = absurd (true≢false (sym (h .ended) ∙ i))

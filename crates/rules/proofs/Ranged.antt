@@ -20,12 +20,12 @@ abbrev pub Extras : List Record → Type 0
 Extras [] = Unit {0}
 Extras (r ∷ rs) = Extra r × Extras rs
 
-given-true : (b : Bool) (o : Option Stack) {k : Stack} → given b o ≡ some k → b ≡ true
+pub given-true : (b : Bool) (o : Option Stack) {k : Stack} → given b o ≡ some k → b ≡ true
 unfolding given
 given-true true o h = refl
 given-true false o h = absurd (true≢false cc)
 
-allow-true : (b : Bool) (x : Stack) {k : Stack} → allow b x ≡ some k → b ≡ true
+pub allow-true : (b : Bool) (x : Stack) {k : Stack} → allow b x ≡ some k → b ≡ true
 unfolding allow
 allow-true true o h = refl
 allow-true false o h = absurd (true≢false cc)

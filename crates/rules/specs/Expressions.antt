@@ -62,7 +62,8 @@ primary inner = do
         t ← passed
         write (PF (x .from) t op)
 
--- The infix operators of a level and above, with their right sides, that stand behind an expression which began at f; at most n of them.
+-- The infix operators of a level and above, with their right sides, that stand behind an expression which began at f; at most n of them, and
+-- `left`, which `expr` hands over, never runs out (Claims: CountersSuffice).
 unfoldable pub infixes : ℕ → (ℕ → Reader Line (Unit {0})) → ℕ → ℕ → Reader Line (Unit {0})
 infixes zero inner level f = return tt
 infixes (suc n) inner level f = do

@@ -11,3 +11,4 @@ pub mod WellFormed
 pub mod Patch
 pub mod Known
 pub mod Grammar
+pub mod Claims

@@ -136,7 +136,8 @@ memory size = do
       else if isNumber k then (expression >> close (x .from) size 0 none 1)
       else (refuseHere 24)
 
--- An operand. Size words may repeat; the last counts, and only before a bracket. At most n of them follow; `size` is the last one passed.
+-- An operand. Size words may repeat; the last counts, and only before a bracket. At most n of them follow, and the n of `operand` never runs
+-- out (Claims: CountersSuffice); `size` is the last one passed.
 unfoldable pub operandSized : ℕ → ℕ → Reader Line (Unit {0})
 operandSized zero size = immediateOrFar
 operandSized (suc n) size = do

@@ -99,7 +99,7 @@ pub record Edit : Type 0 where
   pub records : List Record
 
 -- Statements with place below a are copied; those from a to before a + p are dropped for the new line's, w; the rest are copied with ST and
--- spans moved by q − p.
+-- spans moved by q − p; each is at least p, so `-` takes all of p away (Claims: MovesExactly).
 unfoldable pub exchanged : ℕ → ℕ → ℕ → List Record → List Record → List Record
 exchanged a p q rs w = recordsBelow a rs ++ (w ++ map (moveRecord (λ k. k + q - p)) (recordsOn (a + p) rs))
 

@@ -112,7 +112,7 @@ kind s = done [] (s .here .kind) s
 unfoldable pub passed : Reader Line ℕ
 passed s = done [] (s .last) s
 
--- How many tokens stand behind it: no loop within a line goes round more often.
+-- How many tokens stand behind it: no loop within a line goes round more often (Claims: CountersSuffice).
 unfoldable pub left : Reader Line ℕ
 left s = done [] (length (s .more)) s
 

@@ -6,7 +6,7 @@ use Rattle.lexer.specs.Text.{bytes, openText}
 
 pub data Record : Type 0 where
   ST : (place : ℕ) → Record  -- a statement, by the place of its first token
-  VC : (f t value : ℕ) → Record  -- a number
+  VC : (f t value : ℕ) → Record  -- a number; its field's 32 bits are read as signed (Claims: ValuesFit; `printing`: `signed`)
   VL VI VS : (f t : ℕ) → Record  -- a name, `$`, `$$`
   PF IN : (f t op : ℕ) → Record  -- prefix and infix: 0 +, 1 -, 2 *, 3 /
   OR : (f t register : ℕ) → Record  -- byte registers 0 to 7, word registers 8 to 15
@@ -75,6 +75,27 @@ moveRecord m (LD f t d) = LD (m f) (m t) d
 moveRecord m (LC f t) = LC (m f) (m t)
 moveRecord m LT = LT
 
+-- The places of a record, which are what is moved.
+unfoldable pub places : Record → List ℕ
+places (ST p) = p ∷ []
+places (VC f t v) = f ∷ t ∷ []
+places (VL f t) = f ∷ t ∷ []
+places (VI f t) = f ∷ t ∷ []
+places (VS f t) = f ∷ t ∷ []
+places (PF f t o) = f ∷ t ∷ []
+places (IN f t o) = f ∷ t ∷ []
+places (OR f t r) = f ∷ t ∷ []
+places (OS f t s) = f ∷ t ∷ []
+places (OI f t) = f ∷ t ∷ []
+places (OF f t) = f ∷ t ∷ []
+places (OD f t z s) = f ∷ t ∷ []
+places (OX f t e d z s) = f ∷ t ∷ []
+places (LL f t) = f ∷ t ∷ []
+places (LI f t o n f′ t′) = f ∷ t ∷ f′ ∷ t′ ∷ []
+places (LD f t d) = f ∷ t ∷ []
+places (LC f t) = f ∷ t ∷ []
+places LT = []
+
 unfoldable pub openRecords : Unit {0}
-unfolding openText field fields encode listing moveRecord
+unfolding openText field fields encode listing moveRecord places
 openRecords = tt

@@ -107,7 +107,8 @@ constant x = do
   write (LC (x .from) t)
 
 -- `db` and `dw` take literals, commas optional; strings give one byte a character, numbers their low one or two bytes, low first. The
--- literals go to the line's end; there are at most n; a number has `width` bytes.
+-- literals go to the line's end; there are at most n, and the n of `dataOf` never runs out (Claims: CountersSuffice); a number has `width`
+-- bytes.
 unfoldable pub literalOf : Kind → ℕ → Reader Line (List ℕ) → Reader Line (List ℕ)
 literalOf newline width others = return []
 literalOf end width others = return []
@@ -184,7 +185,7 @@ module _ (table : List ℕ) where
   unfoldable pub statement : Reader State Bool
   statement = skipLines >> begun
 
-  -- Statements, at most n, until none is left or one is refused.
+  -- Statements, at most n, until none is left or one is refused. The n of `readFrom` never runs out (Claims: CountersSuffice).
   unfoldable pub statements : ℕ → Reader State (Unit {0})
   statements zero = return tt
   statements (suc n) = do

@@ -1,7 +1,6 @@
 -- The number of the full read's refusal tells, if it refuses the line.
 -- Assumes nothing.
 use mathlib.Core.Path.{sym, _∙_}
-use denote.Ref.{now}
 use borrow.Author.Needs.{needs}
 use Rattle.patch.proofs.Causes.{open-denied, open-accepted}
 use Rattle.patch.proofs.alone.leaves_open.Statement.{statement}
