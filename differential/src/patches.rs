@@ -366,9 +366,9 @@ fn line_starts(source: &[u8]) -> Vec<usize> {
     std::iter::once(0).chain((1..=source.len()).filter(|at| source[at - 1] == b'\n')).collect()
 }
 
-/// Demand 3, with no oracle between: on accepted sources, each of their lines and random texts, the patch answers as the full read of
-/// the edited source does, lent as many bytes for the listing; or it is refused with 40, and then a line of the proviso leaves a
-/// `times` open. Gives the calls, how many of them were accepted, refused as the full read, and refused with 40.
+/// Demand 3, with no oracle between: on accepted sources, each of their lines and random texts, some with a byte above 127 or as long as a
+/// source may be, the patch answers as the full read of the edited source does, lent as many bytes for the listing; or it is refused with
+/// 40, and then a line of the proviso leaves a `times` open. Gives the calls, how many of them were accepted, refused as the full read, and refused with 40.
 pub fn as_full_read(
     count: u64,
     mut ours: impl Patch,
@@ -392,8 +392,14 @@ pub fn as_full_read(
                 2 => random.of(&["times 2", "times 2 nop", "\t; bare", "k equ *5", "dw 0abh", "db 'open", "rep"]).as_bytes().to_vec(),
                 _ => sources::grammar(&mut random),
             };
-            let text = text.split(|b| *b == b'\n').next().unwrap();
-            let call = Call { source: &source, listing: &room[..length], place, text };
+            let mut text = text.split(|b| *b == b'\n').next().unwrap().to_vec();
+            if random.once_in(32) {
+                // bare, or in a comment
+                text.extend_from_slice(&[b';', 128 | random.bits() as u8][random.below(2)..]);
+            } else if random.once_in(1024) {
+                text.resize(65536 - source.len() + random.below(2 * source.len() + 1), b' ');
+            }
+            let call = Call { source: &source, listing: &room[..length], place, text: &text };
             let (end, edited) = (line_end(&source, place), edited(&call));
             let mut enough = vec![0; 18 * edited.len()];
             let most = full_read(&edited, &mut enough).unwrap_or(0);
