@@ -1,18 +1,9 @@
 //! The patch, by its rule: what is expected of it, and the comparison.
 use crate::answer::{fields_of, Refusal};
+use crate::lent::filled;
 use crate::limits;
+use crate::patched::{called, shown, Call, Patch, Patched};
 use crate::sources::{self, Random};
-
-/// The edited source and its listing.
-pub type Patched = Result<(Vec<u8>, Vec<u8>), Refusal>;
-
-pub struct Call<'a> {
-    pub source: &'a [u8],
-    pub listing: &'a [u8],
-    /// where the line begins that is exchanged
-    pub place: usize,
-    pub text: &'a [u8],
-}
 
 /// What the patch answers, lent these many bytes for the source and for the listing.
 pub fn expected(call: &Call, source_room: usize, listing_room: usize) -> Patched {
@@ -24,8 +15,8 @@ pub fn expected(call: &Call, source_room: usize, listing_room: usize) -> Patched
     if text.contains(&b'\n') {
         return refused(43);
     }
-    let end = place + source[place..].iter().take_while(|b| **b != b'\n').count();
-    let edited = [&source[..place], text, &source[end..]].concat();
+    let end = line_end(source, place);
+    let edited = edited(call);
     if source.len() > 65536 || edited.len() > 65536 {
         return refused(1);
     }
@@ -58,11 +49,23 @@ pub fn expected(call: &Call, source_room: usize, listing_room: usize) -> Patched
     Ok((edited, patched))
 }
 
+/// Where the line ends that begins at a place.
+fn line_end(source: &[u8], place: usize) -> usize {
+    place + source[place..].iter().take_while(|b| **b != b'\n').count()
+}
+
+/// The edited source of a call whose place is one of its source.
+pub fn edited(call: &Call) -> Vec<u8> {
+    let Call { source, place, text, .. } = *call;
+    [&source[..place], text, &source[line_end(source, place)..]].concat()
+}
+
 fn blank(line: &[u8]) -> bool {
     let rest: Vec<&u8> = line.iter().skip_while(|b| b" \t\r".contains(b)).collect();
     rest.first().is_none_or(|b| **b == b';')
 }
 
+/// The full read of the line alone, with its tests 1 and 2, refuses it with 34.
 fn leaves_times_open(line: &[u8]) -> bool {
     limits::read(line).is_err_and(|refusal| refusal.number == 34)
 }
@@ -180,10 +183,17 @@ fn shifted(listing: &[u8], by: i64) -> Vec<u8> {
     bytes
 }
 
-/// Calls of the patch: accepted sources with their own listing, others, listings that were changed, places that are none.
+/// Calls of the patch: bytes above 127 and long lines in every part, then random ones.
 pub fn calls(count: u64, f: &mut impl FnMut(&Call)) {
+    foreign(f);
+    longest(f);
+    at_random(count, f);
+}
+
+/// Accepted sources with their own listing, others, listings that were changed, places that are none, bytes above 127.
+fn at_random(count: u64, f: &mut impl FnMut(&Call)) {
     let mut random = Random::new(6);
-    for turn in 0..count {
+    for _ in 0..count {
         let source = loop {
             let mut source = sources::grammar(&mut random);
             if random.once_in(2) {
@@ -214,48 +224,130 @@ pub fn calls(count: u64, f: &mut impl FnMut(&Call)) {
         let starts = line_starts(&source);
         let place = if random.once_in(32) { random.below(source.len() + 3) } else { starts[random.below(starts.len())] };
         f(&Call { source: &source, listing: &listing, place, text: &text });
-        if turn % 64 == 0 {
-            let mut foreign = text.clone();
-            foreign.push(200);
-            f(&Call { source: &source, listing: &listing, place, text: &foreign });
+        if random.once_in(4) && place <= source.len() {
+            with_foreign(&mut random, &Call { source: &source, listing: &listing, place, text: &text }, f);
         }
     }
 }
 
-/// A patch: writes the edited source and its listing into the two buffers and gives their lengths, or refuses.
-pub trait Patch: FnMut(&Call, &mut [u8], &mut [u8]) -> Result<(usize, usize), Refusal> {}
-impl<F: FnMut(&Call, &mut [u8], &mut [u8]) -> Result<(usize, usize), Refusal>> Patch for F {}
-
-const UNTOUCHED: u8 = 0xA5;
-
-/// One call, lent so many bytes of a pattern: what it says, with the bytes that it wrote. Panics where it wrote others.
-fn called(ours: &mut impl Patch, call: &Call, source_room: usize, listing_room: usize) -> Patched {
-    let (mut source, mut listing) = (vec![UNTOUCHED; source_room], vec![UNTOUCHED; listing_room]);
-    let said = ours(call, &mut source, &mut listing);
-    let (s, l) = *said.as_ref().unwrap_or(&(0, 0));
-    let untouched = source[s..].iter().chain(&listing[l..]).all(|b| *b == UNTOUCHED);
-    assert!(untouched, "wrote beyond its result: {}", shown(call));
-    said.map(|(s, l)| (source[..s].to_vec(), listing[..l].to_vec()))
+/// The call with a byte above 127 put into the replaced line, above it, behind it or into the text. The longer source keeps its listing.
+fn with_foreign(random: &mut Random, call: &Call, f: &mut impl FnMut(&Call)) {
+    let Call { listing, place, .. } = *call;
+    let (mut source, mut text) = (call.source.to_vec(), call.text.to_vec());
+    let end = line_end(&source, place);
+    // in a comment, or bare
+    let piece = [b';', 128 | random.bits() as u8];
+    let piece = &piece[random.below(2)..];
+    let put = |into: &mut Vec<u8>, at: usize| drop(into.splice(at..at, piece.iter().copied()));
+    let mut moved = 0;
+    match random.below(6) {
+        0 | 1 => put(&mut source, end),
+        2 => put(&mut source, place + random.below(end - place + 1)),
+        3 if place > 0 => {
+            put(&mut source, random.below(place));
+            moved = piece.len();
+        }
+        4 => {
+            let at = end + random.below(source.len() - end + 1);
+            put(&mut source, at);
+        }
+        _ => {
+            let at = random.below(text.len() + 1);
+            put(&mut text, at);
+        }
+    }
+    f(&Call { source: &source, listing, place: place + moved, text: &text });
 }
 
-fn shown(call: &Call) -> String {
-    let text = |bytes: &[u8]| bytes.escape_ascii().to_string();
-    format!("{:?} at {}: {:?}, listing {:?}", text(call.source), call.place, text(call.text), text(call.listing))
+/// A line above, the replaced one, the new one and one below, with and without bytes above 127 at telling places, behind a `times`
+/// without its content and behind others; with the listing of the same source with blanks for such bytes, and with none.
+fn foreign(f: &mut impl FnMut(&Call)) {
+    let tails: [&[u8]; 6] = [b"", b";\x80", b" ; \xff;", b"\xc8", b" '\xe9'", b"\r"];
+    let mut lines: Vec<Vec<u8>> = vec![b"times 1 times 2 ;\xa0".to_vec(), b"\x80times 2".to_vec()];
+    for line in ["times 2", "nop", ""] {
+        lines.extend(tails.iter().map(|tail| [line.as_bytes(), tail].concat()));
+    }
+    for above in &lines {
+        for replaced in &lines {
+            for text in &lines {
+                for below in [b"\nb".as_slice(), b"", b"\nb;\x80"] {
+                    let source = [above, b"\n".as_slice(), replaced, below].concat();
+                    let blanked: Vec<u8> = source.iter().map(|b| if b.is_ascii() { *b } else { b' ' }).collect();
+                    let place = above.len() + 1;
+                    f(&Call { source: &source, listing: b"", place, text });
+                    if let Ok(listing) = limits::read(&blanked) {
+                        f(&Call { source: &source, listing: &listing, place, text });
+                    }
+                }
+            }
+        }
+    }
+}
+
+/// Old and edited sources of 65,535 to 65,537 bytes and more, by blanks in the line above, in the replaced one, in the new one.
+fn longest(f: &mut impl FnMut(&Call)) {
+    let padded = |line: &[u8], count: usize| [line, " ".repeat(count).as_bytes()].concat();
+    let lines: [&[u8]; 5] = [b"times 1", b"times 1;\x80", b"nop", b"times 1;", b""];
+    for length in [65535, 65536, 65537, 70000] {
+        for long in lines {
+            for short in lines {
+                let whole = padded(long, length - long.len());
+                f(&Call { source: &whole, listing: b"", place: 0, text: short });
+                f(&Call { source: short, listing: b"", place: 0, text: &whole });
+                // the long line above or replaced, in an old source of that length
+                let line = padded(long, length - long.len() - 1 - short.len());
+                let source = [&line, b"\n".as_slice(), short].concat();
+                for place in [0, line.len() + 1] {
+                    for text in [b"nop".as_slice(), b"times 1", b""] {
+                        f(&Call { source: &source, listing: b"", place, text });
+                    }
+                }
+            }
+        }
+    }
+}
+
+/// What was compared.
+#[derive(Clone, Copy, Debug, Default)]
+pub struct Count {
+    pub calls: u64,
+    pub accepted: u64,
+    /// calls with a byte above 127 in the old source or in the text
+    pub foreign: u64,
+    /// of these, the calls whose edited source has none: only the replaced line has it
+    pub replaced_foreign: u64,
+    /// calls whose old or edited source is above 65,536 bytes
+    pub too_long: u64,
+}
+
+impl Count {
+    fn add(&mut self, call: &Call, calls: u64) {
+        self.calls += calls;
+        if call.place > call.source.len() {
+            return;
+        }
+        let edited = edited(call);
+        let foreign = !call.source.is_ascii() || !call.text.is_ascii();
+        self.foreign += if foreign { calls } else { 0 };
+        self.replaced_foreign += if foreign && edited.is_ascii() { calls } else { 0 };
+        self.too_long += if call.source.len().max(edited.len()) > 65536 { calls } else { 0 };
+    }
 }
 
 /// Compares a patch with the expected one: with room enough, with just enough, with a byte too little for the source, the listing
-/// or both. Panics where they differ; gives the number of calls and how many were accepted.
-pub fn compare(count: u64, mut ours: impl Patch) -> (u64, u64) {
-    let (mut compared, mut accepted) = (0, 0);
+/// or both. Panics where they differ.
+pub fn compare(count: u64, mut ours: impl Patch) -> Count {
+    let mut compared = Count::default();
     calls(count, &mut |call| {
         let rooms = match expected(call, usize::MAX, usize::MAX) {
             Ok((source, listing)) => {
-                accepted += 1;
+                compared.accepted += 1;
                 let (s, l) = (source.len(), listing.len());
                 vec![(s + 9, l + 9), (s, l), (s.saturating_sub(1), l), (s, l.saturating_sub(1)), (s.saturating_sub(1), l.saturating_sub(1))]
             }
             Err(_) => vec![(65536, 65536), (0, 0)],
         };
+        compared.add(call, rooms.len() as u64);
         for (source_room, listing_room) in rooms {
             let expected = expected(call, source_room, listing_room);
             let said = called(&mut ours, call, source_room, listing_room);
@@ -264,10 +356,9 @@ pub fn compare(count: u64, mut ours: impl Patch) -> (u64, u64) {
                 "{}\nlent {source_room} and {listing_room} bytes\nexpected {expected:?}\nsaid {said:?}",
                 shown(call)
             );
-            compared += 1;
         }
     });
-    (compared, accepted)
+    compared
 }
 
 /// Where the lines of a source begin.
@@ -275,9 +366,9 @@ fn line_starts(source: &[u8]) -> Vec<usize> {
     std::iter::once(0).chain((1..=source.len()).filter(|at| source[at - 1] == b'\n')).collect()
 }
 
-/// Demand 3, with no oracle between: on accepted sources, each of their lines and random texts, the patch answers as the full read of
-/// the edited source does, lent as many bytes for the listing; or it is refused with 40, and then a line of the proviso leaves a
-/// `times` open. Gives the calls, how many of them were accepted, refused as the full read, and refused with 40.
+/// Demand 3, with no oracle between: on accepted sources, each of their lines and random texts, some with a byte above 127 or as long as a
+/// source may be, the patch answers as the full read of the edited source does, lent as many bytes for the listing; or it is refused with
+/// 40, and then a line of the proviso leaves a `times` open. Gives the calls, how many of them were accepted, refused as the full read, and refused with 40.
 pub fn as_full_read(
     count: u64,
     mut ours: impl Patch,
@@ -301,10 +392,15 @@ pub fn as_full_read(
                 2 => random.of(&["times 2", "times 2 nop", "\t; bare", "k equ *5", "dw 0abh", "db 'open", "rep"]).as_bytes().to_vec(),
                 _ => sources::grammar(&mut random),
             };
-            let text = text.split(|b| *b == b'\n').next().unwrap();
-            let call = Call { source: &source, listing: &room[..length], place, text };
-            let end = place + source[place..].iter().take_while(|b| **b != b'\n').count();
-            let edited = [&source[..place], text, &source[end..]].concat();
+            let mut text = text.split(|b| *b == b'\n').next().unwrap().to_vec();
+            if random.once_in(32) {
+                // bare, or in a comment
+                text.extend_from_slice(&[b';', 128 | random.bits() as u8][random.below(2)..]);
+            } else if random.once_in(1024) {
+                text.resize(65536 - source.len() + random.below(2 * source.len() + 1), b' ');
+            }
+            let call = Call { source: &source, listing: &room[..length], place, text: &text };
+            let (end, edited) = (line_end(&source, place), edited(&call));
             let mut enough = vec![0; 18 * edited.len()];
             let most = full_read(&edited, &mut enough).unwrap_or(0);
             let lent = match random.below(4) {
@@ -312,7 +408,7 @@ pub fn as_full_read(
                 1 => most.saturating_sub(1),
                 _ => most + random.below(9),
             };
-            let mut out = vec![UNTOUCHED; lent];
+            let mut out = filled(lent);
             let expected = full_read(&edited, &mut out).map(|n| (edited.clone(), out[..n].to_vec()));
             let said = called(&mut ours, &call, edited.len() + random.below(2), lent);
             met[0] += 1;

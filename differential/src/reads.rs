@@ -1,5 +1,6 @@
 //! Compares a full read with the expected one on a source: answer, bytes written, and what must be left as it was.
 use crate::answer::{shown, Answer, Refusal};
+use crate::lent::{fill, left};
 use crate::limits;
 use crate::sources;
 
@@ -21,21 +22,6 @@ pub struct Compare<F> {
     pub count: Count,
     /// How often each refusal was expected: a comparison that never meets one says nothing of it.
     pub refusals: [u64; 64],
-}
-
-/// What a lent byte holds before the call: another value from byte to byte, so that no write of one value goes unseen.
-fn untouched(i: usize) -> u8 {
-    (i as u8).wrapping_mul(29) ^ 0xA5
-}
-
-fn fill(buffer: &mut Vec<u8>, room: usize) {
-    buffer.clear();
-    buffer.extend((0..room).map(untouched));
-}
-
-/// Whether the bytes behind the first `written` are as they were.
-fn left(buffer: &[u8], written: usize) -> bool {
-    buffer.iter().enumerate().skip(written).all(|(i, b)| *b == untouched(i))
 }
 
 impl<F: FullRead> Compare<F> {

@@ -3,7 +3,10 @@
 use differential::answer::shown;
 use differential::reads::on_a_large_stack;
 use differential::recorded::in_room;
-use differential::{limits, original, patches, recorded, samples, sources, words};
+use differential::{known, limits, original, patched, patches, recorded, samples, sources, words};
+use mrc_compiler::ast::Operator;
+use mrc_compiler::parser::Parser;
+use std::hint::black_box;
 
 #[test]
 fn samples_of_the_rules() {
@@ -86,9 +89,11 @@ fn differences_from_the_manual() {
         assert_eq!(words::original(word).operation, 255, "{word}");
     }
     let not_the_manuals = ["ssb", "int1", "salc", "int3", "xlatb", "cmpsb", "cmpsw", "scasb", "scasw", "lodsb", "lodsw", "stosb", "stosw"];
-    for word in not_the_manuals {
-        assert_ne!(words::original(word).operation, 255, "{word}");
+    let numbers = [20, 82, 98, 83, 6, 50, 51, 52, 53, 54, 55, 56, 57];
+    for (word, number) in not_the_manuals.into_iter().zip(numbers) {
+        assert_eq!(words::original(word).operation, number, "{word}");
     }
+    assert_eq!(words::original("sbb").operation, words::original("ssb").operation);
     // Every word of the manual's list but those above, a space between two.
     let manual = "aaa aad aam aas adc add and call cbw clc cld cli cmc cmp cwd daa das dec div esc hlt idiv imul in inc int into \
         iret ja jnbe jae jnb jb jnae jbe jna jc jcxz je jz jg jnle jge jnl jl jnge jle jng jmp jnc jne jnz jno jnp jpo jns jo jp \
@@ -98,6 +103,7 @@ fn differences_from_the_manual() {
     for word in &known {
         assert_ne!(words::original(word).operation, 255, "{word}");
     }
+    assert_eq!(known.len(), 104);
     known.extend(not_the_manuals);
     known.sort();
     let mut spellings = words::spellings();
@@ -111,10 +117,59 @@ fn differences_from_the_manual() {
         ("sal ax,1", "REF 20 6 7 255 255"),
         ("repe cmpsb", "ST 0;LL 0 4;ST 5;LI 5 10 50 0 10 10;END 4"),
         ("xlat", "ST 0;LL 0 4;END 2"),
+        ("movs", "ST 0;LL 0 4;END 2"),
+        // `rep` and `repne` need no line end, and what follows is a statement of its own.
+        ("rep movsb", "ST 0;LI 0 3 46 0 3 3;ST 4;LI 4 9 48 0 9 9;END 4"),
+        ("repne scasb", "ST 0;LI 0 5 47 0 5 5;ST 6;LI 6 11 52 0 11 11;END 4"),
     ] {
         let said = shown(&original::read(source.as_bytes())).trim_end().replace('\n', ";");
         assert_eq!(said, expected, "{source:?}");
     }
+}
+
+/// What docs/DIFFERENCES.md says of the original where this software parts from it.
+#[test]
+fn differences_from_the_original() {
+    let read_whole = |text: &str| {
+        let mut parser = Parser::new(text);
+        while parser.parse_line().expect("no error").is_some() {}
+    };
+    // 1, 2, 3 and 5 are not the original's: it takes any text, to any depth.
+    read_whole(&"\n".repeat(65537));
+    read_whole("a ;\u{e9}");
+    read_whole(&format!("equ {}1{}", "(".repeat(100), ")".repeat(100)));
+    read_whole(&format!("{}a", "times 1 ".repeat(100)));
+    // 30 to 34 stand for its panics, and for nothing else.
+    for (number, source) in
+        [(30, "dw 0abh"), (31, "equ 0x80000000"), (32, "mov ax,[es:]"), (33, "mov ax,[si+di]"), (34, "times 2")]
+    {
+        assert!(original::caught(|| Parser::new(source).parse_line().is_ok()).is_err(), "{source:?} is no panic");
+        assert_eq!(original::read(source.as_bytes()).unwrap_err().number, number, "{source:?}");
+    }
+    let error = Parser::new("db ,,").parse_line().unwrap_err();
+    assert!(error.to_string().contains(' '), "no sentence: {error}");
+}
+
+/// The same of `evaluate`: 50 and 51.
+#[test]
+fn evaluate_of_the_original() {
+    let said = |operator: Operator, left: i32, right: i32| original::caught(|| black_box(operator).evaluate(black_box(left), black_box(right)));
+    for (operator, left, right, wrapped) in [
+        (Operator::Add, i32::MAX, 1, i32::MIN),
+        (Operator::Subtract, i32::MIN, 1, i32::MAX),
+        (Operator::Multiply, 65536, 65536, 0),
+    ] {
+        let said = said(operator, left, right);
+        // Rust's arithmetic overflows with a panic in a debug build, and wraps in a release build.
+        if cfg!(debug_assertions) {
+            assert!(said.is_err_and(|message| message.contains("overflow")), "{left} and {right}");
+        } else {
+            assert_eq!(said, Ok(wrapped), "{left} and {right}");
+        }
+    }
+    assert!(said(Operator::Divide, i32::MIN, -1).is_err_and(|message| message.contains("overflow")));
+    assert!(said(Operator::Divide, 1, 0).is_err_and(|message| message.contains("divide by zero")));
+    assert_eq!(said(Operator::Divide, -7, 2), Ok(-3));
 }
 
 /// The recorded answers are the original's.
@@ -131,6 +186,14 @@ fn recorded_answers() {
     }
     for (source, expected) in recorded::entries(recorded::READS) {
         assert_eq!(recorded::read_of(&limits::read(&source)), expected, "{}", recorded::escaped(&source));
+    }
+}
+
+/// The rule of the patch says what document 01 says in words.
+#[test]
+fn known_patches() {
+    for known in known::known() {
+        assert_eq!(patches::expected(&known.call(), usize::MAX, usize::MAX), known.answer, "{}", patched::shown(&known.call()));
     }
 }
 
@@ -158,8 +221,7 @@ fn patch_rule_and_full_read_agree() {
             }
             Err(refusal) if !matches!(refusal.number, 40 | 42 | 43) => {
                 refused += 1;
-                let end = call.place + call.source[call.place..].iter().take_while(|b| **b != b'\n').count();
-                let edited = [&call.source[..call.place], call.text, &call.source[end..]].concat();
+                let edited = patches::edited(call);
                 assert_eq!(limits::read(&edited), Err(refusal), "{:?}", String::from_utf8_lossy(&edited));
             }
             Err(_) => {}

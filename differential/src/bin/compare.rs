@@ -6,7 +6,14 @@ fn main() {
 }
 
 #[cfg(library)]
-use differential::{ours, recorded, values};
+use differential::answer::Refusal;
+#[cfg(library)]
+use differential::{known, ours, patched, recorded, values};
+
+#[cfg(library)]
+fn patch(call: &patched::Call, source: &mut [u8], listing: &mut [u8]) -> Result<(usize, usize), Refusal> {
+    ours::patch(call.source, call.listing, call.place, call.text, source, listing)
+}
 
 #[cfg(library)]
 fn main() {
@@ -34,6 +41,7 @@ fn main() {
     }
     assert!(tokens > 1000 && words > 500 && reads > 500, "the recorded lists are short");
     println!("recorded answers: tokens of {tokens} sources, {words} words, {reads} full reads, all as recorded");
+    println!("known patches: {} calls, all as the rules say", known::replay(patch));
     let (values, met) = values::all(if long { 10_000_000 } else { 500_000 }, ours::evaluate);
     assert!(met.iter().all(|count| *count > 100), "too little was compared");
     println!("evaluate: {values} calls, {} refused with 50, {} with 51: all as exact arithmetic says", met[0], met[1]);
@@ -89,13 +97,18 @@ fn with_original(long: bool) {
         compare.reads, compare.written, compare.none_left
     );
 
-    let patch = |call: &patches::Call, source: &mut [u8], listing: &mut [u8]| {
-        ours::patch(call.source, call.listing, call.place, call.text, source, listing)
-    };
     on_a_large_stack(move || {
-        let (calls, accepted) = patches::compare(if long { 1_000_000 } else { 100_000 }, patch);
-        assert!(calls > 100_000 && accepted > 10_000, "too little was compared");
-        println!("patches: {calls} calls, {accepted} edits accepted, buffers too short by a byte among them: all by the rule");
+        let count = patches::compare(if long { 1_000_000 } else { 100_000 }, patch);
+        assert!(count.calls > 100_000 && count.accepted > 10_000, "too little was compared");
+        assert!(count.replaced_foreign > 1000 && count.too_long > 100, "too little was compared");
+        println!(
+            "patches: {} calls, {} edits accepted, buffers too short by a byte among them: all by the rule",
+            count.calls, count.accepted
+        );
+        println!(
+            "patches with bytes above 127: {} calls, {} of them with such bytes in the replaced line alone; {} calls with a source that is too long",
+            count.foreign, count.replaced_foreign, count.too_long
+        );
         let (calls, refused) = patches::damaged(patch);
         assert!(refused > 1000 && calls - refused > 1000, "too little was compared");
         println!("damaged listings: {calls} calls, {refused} refused with 41: all as a second checker says");

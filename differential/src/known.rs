@@ -1,0 +1,101 @@
+//! Patches whose answers document 01 settles in its own words; no oracle is asked.
+use crate::answer::{lines, Listing, Refusal};
+use crate::patched::{called, shown, Call, Patch, Patched};
+
+pub struct Known {
+    pub source: Vec<u8>,
+    pub listing: Vec<u8>,
+    pub place: usize,
+    pub text: Vec<u8>,
+    pub answer: Patched,
+}
+
+impl Known {
+    pub fn call(&self) -> Call<'_> {
+        Call { source: &self.source, listing: &self.listing, place: self.place, text: &self.text }
+    }
+
+    fn of(source: impl AsRef<[u8]>, listing: &str, place: usize, text: impl AsRef<[u8]>, answer: Patched) -> Self {
+        Self { source: source.as_ref().to_vec(), listing: records(listing), place, text: text.as_ref().to_vec(), answer }
+    }
+}
+
+/// The bytes of records given as the program `listing` prints them, `; ` between two.
+fn records(text: &str) -> Vec<u8> {
+    let mut listing = Listing { bytes: Vec::new(), base: 0 };
+    for record in text.split("; ").filter(|record| !record.is_empty()) {
+        let (mark, fields) = record.split_once(' ').unwrap();
+        let fields: Vec<u32> = fields.split(' ').map(|field| field.parse().unwrap()).collect();
+        listing.record(mark, &fields);
+    }
+    listing.bytes
+}
+
+fn written(source: impl AsRef<[u8]>, listing: &str) -> Patched {
+    Ok((source.as_ref().to_vec(), records(listing)))
+}
+
+fn refused(number: u8, from: usize, to: usize) -> Patched {
+    Err(Refusal::at(number, from, to))
+}
+
+pub fn known() -> Vec<Known> {
+    let blanks = |count| " ".repeat(count);
+    let times = |count| "times 1 ".repeat(count);
+    vec![
+        // 40: the full read of the line alone. It tests 1 and 2 before it reads, and a line with a byte above 127 is refused with 2.
+        Known::of("times 2", "", 0, "", refused(40, 0, 0)),
+        Known::of("times 2;", "", 0, "", refused(40, 0, 0)),
+        Known::of(b"times 2;\x80", "", 0, "", written("", "")),
+        Known::of(b"times 2;\x7f", "", 0, "", refused(40, 0, 0)),
+        Known::of(b"times 2 \xff", "", 0, "b", written("b", "ST 0; LL 0 1")),
+        Known::of(b"a\ntimes 2;\xc8\nb", "ST 0; LL 0 1; ST 12; LL 12 13", 2, "", written("a\n\nb", "ST 0; LL 0 1; ST 3; LL 3 4")),
+        Known::of("nop", "", 0, "times 1;", refused(40, 0, 0)),
+        // 2: the edited source, wherever the byte stands there.
+        Known::of("nop", "", 0, b"times 1;\x80", refused(2, 8, 9)),
+        Known::of(b"times 2;\x80\nb", "", 10, "c", refused(2, 8, 9)),
+        Known::of(b";\x80\nb", "", 3, "times 2", refused(2, 1, 2)),
+        Known::of(b"times 2;\x80\nb;\x80", "", 0, "", refused(2, 3, 4)),
+        Known::of(b"a;\xff", "ST 0; LL 0 1", 0, "b", written("b", "ST 0; LL 0 1")),
+        // 1: the old source or the edited one.
+        Known::of("nop", "", 0, format!("times 1{}", blanks(65530)), refused(1, 0, 0)),
+        Known::of("nop", "", 0, format!("times 1{}", blanks(65529)), refused(40, 0, 0)),
+        Known::of("nop", "", 0, blanks(65536), written(blanks(65536), "")),
+        Known::of("nop", "", 0, blanks(65537), refused(1, 0, 0)),
+        Known::of(format!("times 1{}", blanks(65530)), "", 0, "", refused(1, 0, 0)),
+        Known::of(format!("times 1{}", blanks(65529)), "", 0, "", refused(40, 0, 0)),
+        Known::of([b"times 1;\x80".as_slice(), blanks(65528).as_bytes()].concat(), "", 0, "", refused(1, 0, 0)),
+        Known::of([b"times 1;\x80".as_slice(), blanks(65527).as_bytes()].concat(), "", 0, "", written("", "")),
+        // 40 counts the limits of the read, looks at the nearest line above with more than blanks and a comment, and comes before the reading.
+        Known::of("", "", 0, times(16), refused(40, 0, 0)),
+        Known::of("", "", 0, times(17), refused(5, 128, 133)),
+        Known::of("times 2\nb", "", 8, "equ *", refused(40, 0, 0)),
+        Known::of("times 2\n \t;times\n\r\nb", "", 19, "c", refused(40, 0, 0)),
+        Known::of(";times 2\nb", "ST 9; LL 9 10", 9, "c", written(";times 2\nc", "ST 9; LL 9 10")),
+        Known::of("times 2\na\nb", "", 10, "c", written("times 2\na\nc", "ST 10; LL 10 11")),
+        // The other causes of the patch, and an edit that moves the rest.
+        Known::of("a\nb", "", 1, "c", refused(42, 0, 0)),
+        Known::of("a\nb", "", 4, "c", refused(42, 0, 0)),
+        Known::of("a", "", 0, "b\n", refused(43, 0, 0)),
+        Known::of("a", "LL 0 1", 0, "b", refused(41, 0, 0)),
+        Known::of("a\n", "ST 0; LL 0 1", 2, "equ *5", refused(22, 0, 0)),
+        Known::of("a\n", "ST 0; LL 0 1", 2, "dw 0abh", refused(30, 5, 8)),
+        Known::of("a\n0abh", "ST 0; LL 0 1", 0, "in", written("in\n0abh", "ST 0; LI 0 2 4 0 2 2")),
+        Known::of("a\nb\n", "ST 0; LL 0 1; ST 2; LL 2 3", 0, "k equ 2", written("k equ 2\nb\n", "ST 0; LL 0 1; ST 2; VC 6 7 2; LC 2 7; ST 8; LL 8 9")),
+    ]
+}
+
+/// Panics where the patch says something else. Gives how many were asked.
+pub fn replay(mut ours: impl Patch) -> u64 {
+    let list = known();
+    for known in &list {
+        let (call, room) = (known.call(), 65536);
+        let said = called(&mut ours, &call, room, room);
+        let text = |answer: &Patched| match answer {
+            Ok((source, listing)) => format!("{:?}\n{}", source.escape_ascii().to_string(), lines(listing)),
+            Err(refusal) => format!("{refusal:?}\n"),
+        };
+        assert!(said == known.answer, "a known patch: {}\nexpected {}said {}", shown(&call), text(&known.answer), text(&said));
+    }
+    list.len() as u64
+}

@@ -1,0 +1,350 @@
+/* Calls every function that include/laqhoncu.h declares, with answers that document 01 gives: its samples, its refusals, its edits.
+   Buffers hold a pattern before each call and are looked through after it. Ends with status 1 at the first difference; else prints how
+   many answers were compared. */
+#include "laqhoncu.h"
+#include <stdio.h>
+#include <stdlib.h>
+#include <string.h>
+
+enum { LONGEST = 65536, ROOM = 4096 };
+
+static unsigned long checks;
+
+static void check(int same, const char *what, const char *source) {
+    checks++;
+    if (same) return;
+    for (; *source; source++) printf(*source >= ' ' && *source <= '~' ? "%c" : "\\x%02x", (unsigned char)*source);
+    printf(": %s\n", what);
+    exit(1);
+}
+
+/* Another value from byte to byte. */
+static uint8_t pattern(size_t i) { return (uint8_t)((i * 29) ^ 0xA5); }
+
+static void fill(uint8_t *buffer, size_t room) {
+    size_t i;
+    for (i = 0; i < room; i++) buffer[i] = pattern(i);
+}
+
+/* Whether the bytes behind the first `written` are as they were. */
+static int left(const uint8_t *buffer, size_t written, size_t room) {
+    size_t i;
+    for (i = written; i < room; i++)
+        if (buffer[i] != pattern(i)) return 0;
+    return 1;
+}
+
+static const uint8_t *bytes(const char *text) { return (const uint8_t *)text; }
+
+static struct laqhoncu_numbers refusal(uint32_t number, uint32_t from, uint32_t to) {
+    struct laqhoncu_numbers n = {0, 0, 0, 255, 255};
+    n.number = number;
+    n.from = from;
+    n.to = to;
+    return n;
+}
+
+static int same_numbers(struct laqhoncu_numbers a, struct laqhoncu_numbers b) {
+    return a.number == b.number && a.from == b.from && a.to == b.to && a.first == b.first && a.second == b.second;
+}
+
+/* The bytes of records such as `ST 0; LL 0 1`: two letters, then fields of four bytes, low first; behind LD's three fields, bytes. */
+static size_t listing(const char *text, uint8_t *out) {
+    size_t n = 0;
+    while (*text) {
+        int fields = 0, data = text[0] == 'L' && text[1] == 'D';
+        out[n++] = (uint8_t)text[0];
+        out[n++] = (uint8_t)text[1];
+        text += 2;
+        while (*text == ' ') {
+            char *end;
+            uint32_t value = (uint32_t)strtoul(text, &end, 10);
+            int i, width = data && fields >= 3 ? 1 : 4;
+            for (i = 0; i < width; i++) out[n++] = (uint8_t)(value >> (8 * i));
+            fields++;
+            text = end;
+        }
+        while (*text == ';' || *text == ' ') text++;
+    }
+    return n;
+}
+
+/* A full read that writes these records: lent more than enough, just enough, and a byte too little (4). */
+static void reads(const char *source, const char *records) {
+    uint8_t wanted[ROOM], out[ROOM];
+    size_t length = strlen(source), n = listing(records, wanted);
+    size_t rooms[2];
+    int i;
+    rooms[0] = n + 9;
+    rooms[1] = n;
+    for (i = 0; i < 2; i++) {
+        struct laqhoncu_full_reading said;
+        fill(out, ROOM);
+        said = laqhoncu_full_read(bytes(source), length, out, rooms[i]);
+        check(same_numbers(said.refusal, refusal(0, 0, 0)), "the full read refuses it", source);
+        check(said.length == n, "the full read's length", source);
+        check(memcmp(out, wanted, n) == 0, "the full read's bytes", source);
+        check(left(out, n, ROOM), "the full read wrote beyond its result", source);
+    }
+    if (n > 0) {
+        struct laqhoncu_full_reading said;
+        fill(out, ROOM);
+        said = laqhoncu_full_read(bytes(source), length, out, n - 1);
+        check(same_numbers(said.refusal, refusal(4, 0, 0)), "the full read in a byte too little", source);
+        check(said.length == 0 && left(out, 0, ROOM), "the full read wrote at a refusal", source);
+    }
+}
+
+/* A full read that gives these numbers and writes nothing. */
+static void says(const uint8_t *source, size_t length, struct laqhoncu_numbers wanted, const char *name) {
+    uint8_t out[ROOM];
+    struct laqhoncu_full_reading said;
+    fill(out, ROOM);
+    said = laqhoncu_full_read(source, length, out, ROOM);
+    check(same_numbers(said.refusal, wanted), "the full read's refusal", name);
+    check(said.length == 0 && left(out, 0, ROOM), "the full read wrote at a refusal", name);
+}
+
+static void refuses(const char *source, uint32_t number, uint32_t from, uint32_t to) {
+    says(bytes(source), strlen(source), refusal(number, from, to), source);
+}
+
+static void full_reads(void) {
+    static uint8_t feeds[LONGEST + 1];
+    struct laqhoncu_numbers registers = refusal(25, 6, 5);
+    registers.first = 8;
+    /* K1 to K12 */
+    reads("mov ax,[bx+4]", "ST 0; OR 4 6 8; VC 11 12 4; PF 10 12 0; OX 7 13 7 1 0 0; LI 0 13 0 2 4 13");
+    reads("equ -1+2*3", "ST 0; VC 5 6 1; PF 4 6 1; VC 7 8 2; VC 9 10 3; IN 7 10 2; IN 4 10 0; LC 0 10");
+    reads("equ 8/4/2", "ST 0; VC 4 5 8; VC 6 7 4; IN 4 7 3; VC 8 9 2; IN 4 9 3; LC 0 9");
+    reads("equ $$", "ST 0; VS 4 5; LC 0 6");
+    reads("dw 70000", "ST 0; LD 0 8 2 112 17");
+    refuses("db ,,", 23, 0, 2);
+    reads("jmp 1:2", "ST 0; VC 4 5 1; VC 6 7 2; OF 4 7; LI 0 7 59 1 4 7");
+    says(bytes("mov [ ax],bx"), 12, registers, "mov [ ax],bx");
+    refuses("mov ax,[si+di]", 33, 8, 13);
+    refuses("dw 0abh", 30, 3, 6);
+    refuses("dw 10bh", 15, 6, 7);
+    refuses("equ *5", 22, 0, 0);
+    /* the other samples, and the tests of the source */
+    reads("", "");
+    reads("k equ 2\n", "ST 0; LL 0 1; ST 2; VC 6 7 2; LC 2 7");
+    reads("equ 0x7fffffff", "ST 0; VC 4 14 2147483647; LC 0 14");
+    refuses("equ 0x80000000", 31, 4, 14);
+    refuses("equ 2147483648", 21, 4, 5);
+    refuses("times 2", 34, 0, 5);
+    refuses("a\x80", 2, 1, 2);
+    memset(feeds, '\n', sizeof feeds);
+    says(feeds, LONGEST, refusal(0, 0, 0), "65,536 line feeds");
+    says(feeds, LONGEST + 1, refusal(1, 0, 0), "65,537 line feeds");
+}
+
+static void statement(const char *source, size_t place, struct laqhoncu_numbers wanted, uint8_t found, const char *records, uint32_t ahead) {
+    uint8_t bytes_wanted[ROOM], out[ROOM];
+    size_t n = listing(records, bytes_wanted);
+    struct laqhoncu_statement_reading said;
+    fill(out, ROOM);
+    said = laqhoncu_statement_read(bytes(source), strlen(source), place, out, ROOM);
+    check(same_numbers(said.refusal, wanted), "the statement read's refusal", source);
+    check(said.found == found, "whether a statement was found", source);
+    check(said.length == n && memcmp(out, bytes_wanted, n) == 0, "the statement read's records", source);
+    check(left(out, n, ROOM), "the statement read wrote beyond its result", source);
+    check(!found || said.ahead == ahead, "the place of the token ahead", source);
+    if (n > 0) {
+        fill(out, ROOM);
+        said = laqhoncu_statement_read(bytes(source), strlen(source), place, out, n - 1);
+        check(same_numbers(said.refusal, refusal(4, 0, 0)) && left(out, 0, ROOM), "the statement read in a byte too little", source);
+    }
+}
+
+static void statement_reads(void) {
+    statement("k equ 2", 0, refusal(0, 0, 0), 1, "ST 0; LL 0 1", 2);
+    statement("k equ 2", 2, refusal(0, 0, 0), 1, "ST 2; VC 6 7 2; LC 2 7", 7);
+    statement("k equ 2", 7, refusal(0, 0, 0), 0, "", 0);
+    statement("\n ;k", 0, refusal(0, 0, 0), 0, "", 0);
+    statement("k equ 2", 8, refusal(42, 0, 0), 0, "", 0);
+    statement("a dw 0abh", 2, refusal(30, 5, 8), 0, "", 0);
+    statement("a equ *5", 2, refusal(22, 0, 0), 0, "", 0);
+    statement("a\x80", 0, refusal(2, 1, 2), 0, "", 0);
+}
+
+static void token(const char *source, size_t place, uint8_t kind, int32_t value, size_t end) {
+    struct laqhoncu_token_found found = laqhoncu_token(bytes(source), strlen(source), place);
+    struct laqhoncu_token_reading said = laqhoncu_token_read(bytes(source), strlen(source), place);
+    check(found.kind == kind && found.value == value && found.end == end, "the token", source);
+    if (kind == 30 || kind == 31) {
+        check(same_numbers(said.refusal, refusal(kind, (uint32_t)place, (uint32_t)end)), "the token read's refusal", source);
+    } else {
+        check(same_numbers(said.refusal, refusal(0, 0, 0)), "the token read refuses it", source);
+        check(said.token.kind == kind && said.token.value == value && said.token.end == end, "the token read", source);
+    }
+}
+
+static void token_refused(const char *source, size_t place, struct laqhoncu_numbers wanted) {
+    check(same_numbers(laqhoncu_token_read(bytes(source), strlen(source), place).refusal, wanted), "the token read's refusal", source);
+}
+
+static void tokens(void) {
+    const char *source = "a1 [0x1F]'c''d\n;e\n!$\r";
+    static uint8_t feeds[LONGEST + 1];
+    token(source, 0, 'a', 0, 2);
+    token(source, 2, ' ', 0, 3);
+    token(source, 3, '[', 0, 4);
+    token(source, 4, '0', 31, 8);
+    token(source, 8, ']', 0, 9);
+    token(source, 9, '\'', 0, 12);
+    token(source, 12, '"', 0, 14);
+    token(source, 14, '\n', 0, 15);
+    token(source, 15, ';', 0, 17);
+    token(source, 18, '!', '!', 19);
+    token(source, 19, '$', 0, 20);
+    token(source, 20, ' ', 0, 21);
+    token(source, 21, 0, 0, 21);
+    token("dw 0abh", 3, 30, 0, 6);
+    token("equ 0x80000000", 4, 31, 0, 14);
+    check(laqhoncu_token(bytes("a"), 1, 7).kind == 0, "the token beyond the end", "a");
+    token_refused("a", 2, refusal(42, 0, 0));
+    token_refused("a\x80", 0, refusal(2, 1, 2));
+    memset(feeds, '\n', sizeof feeds);
+    check(laqhoncu_token_read(feeds, LONGEST + 1, 0).refusal.number == 1, "the token read", "65,537 line feeds");
+    check(laqhoncu_token_read(feeds, LONGEST + 1, LONGEST + 2).refusal.number == 42, "42 comes before 1", "65,537 line feeds");
+    check(laqhoncu_count(bytes(source), strlen(source)) == 13, "how many tokens", source);
+    check(laqhoncu_count(bytes(""), 0) == 0, "how many tokens", "the empty source");
+    check(laqhoncu_count(feeds, LONGEST) == LONGEST, "how many tokens", "65,536 line feeds");
+}
+
+/* An operator on two numbers: the value where the number is 0. */
+static void value(uint8_t operator_number, int32_t a, int32_t b, uint32_t number, int32_t wanted) {
+    struct laqhoncu_valuation said = laqhoncu_evaluate(operator_number, a, b);
+    check(same_numbers(said.refusal, refusal(number, 0, 0)), "its refusal", "evaluate");
+    check(number != 0 || said.value == wanted, "its value", "evaluate");
+}
+
+static void values(void) {
+    value(0, 2, -5, 0, -3);
+    value(1, 2, -5, 0, 7);
+    value(2, -46341, 46340, 0, -2147441940);
+    value(3, -7, 2, 0, -3);
+    value(3, 7, -2, 0, -3);
+    value(0, INT32_MAX, 1, 50, 0);
+    value(1, INT32_MIN, 1, 50, 0);
+    value(2, 65536, 32768, 50, 0);
+    value(3, INT32_MIN, -1, 50, 0);
+    value(3, 1, 0, 51, 0);
+    value(4, 1, 1, 255, 0);
+}
+
+static void word(const char *text, uint8_t operation, uint16_t name, uint8_t directive) {
+    size_t length = strlen(text);
+    uint8_t row[9], numbers[2];
+    check(laqhoncu_operation(bytes(text), length) == operation, "its operation", text);
+    check(laqhoncu_name(bytes(text), length) == name, "its register, segment or size", text);
+    check(laqhoncu_directive(bytes(text), length) == directive, "its directive", text);
+    /* one row, two places for numbers: the second is left as it was */
+    memset(row, 0, sizeof row);
+    row[0] = (uint8_t)length;
+    memcpy(row + 1, text, length);
+    numbers[0] = numbers[1] = 0xA5;
+    laqhoncu_operations(row, 8, numbers, 2);
+    check(numbers[0] == operation && numbers[1] == 0xA5, "its operation, by rows", text);
+}
+
+static void words(void) {
+    word("mov", 0, 65535, 255);
+    word("Jmp", 59, 65535, 255);
+    word("SALC", 98, 65535, 255);
+    word("sal", 255, 65535, 255);
+    word("al", 255, 0, 255);
+    word("BH", 255, 7, 255);
+    word("ax", 255, 8, 255);
+    word("di", 255, 15, 255);
+    word("es", 255, 256, 255);
+    word("DS", 255, 259, 255);
+    word("byte", 255, 512, 255);
+    word("word", 255, 513, 255);
+    word("equ", 255, 65535, 0);
+    word("DB", 255, 65535, 1);
+    word("dw", 255, 65535, 2);
+    word("times", 255, 65535, 3);
+    word("", 255, 65535, 255);
+}
+
+struct edit {
+    const char *old, *records; /* the old source and the listing lent with it */
+    size_t place;
+    const char *text;
+};
+
+/* The old source may hold any byte but 0. */
+static struct laqhoncu_patching patched(const struct edit *e, uint8_t *source, size_t source_room, uint8_t *out, size_t room) {
+    uint8_t lent[ROOM];
+    size_t n = listing(e->records, lent);
+    fill(source, ROOM);
+    fill(out, ROOM);
+    return laqhoncu_patch(bytes(e->old), strlen(e->old), lent, n, e->place, bytes(e->text), strlen(e->text), source, source_room, out, room);
+}
+
+static void patch_refused(struct edit e, size_t source_room, size_t room, struct laqhoncu_numbers wanted) {
+    uint8_t source[ROOM], out[ROOM];
+    struct laqhoncu_patching said = patched(&e, source, source_room, out, room);
+    check(same_numbers(said.refusal, wanted), "the patch's refusal", e.old);
+    check(said.source == 0 && said.listing == 0, "the patch's lengths at a refusal", e.old);
+    check(left(source, 0, ROOM) && left(out, 0, ROOM), "the patch wrote at a refusal", e.old);
+}
+
+static void patch_written(struct edit e, const char *edited, const char *records) {
+    uint8_t wanted[ROOM], source[ROOM], out[ROOM];
+    size_t s = strlen(edited), n = listing(records, wanted);
+    struct laqhoncu_patching said = patched(&e, source, s, out, n);
+    check(same_numbers(said.refusal, refusal(0, 0, 0)), "the patch refuses it", e.old);
+    check(said.source == s && memcmp(source, edited, s) == 0, "the edited source", e.old);
+    check(said.listing == n && memcmp(out, wanted, n) == 0, "the edited source's listing", e.old);
+    check(left(source, s, ROOM) && left(out, n, ROOM), "the patch wrote beyond its result", e.old);
+    if (n > 0) patch_refused(e, s, n - 1, refusal(4, 0, 0));
+    if (s > 0) patch_refused(e, s - 1, n, refusal(6, 0, 0));
+    if (s > 0 && n > 0) patch_refused(e, s - 1, n - 1, refusal(6, 0, 0));
+}
+
+static struct edit edit(const char *old, const char *records, size_t place, const char *text) {
+    struct edit e;
+    e.old = old;
+    e.records = records;
+    e.place = place;
+    e.text = text;
+    return e;
+}
+
+static void patches(void) {
+    static char blanks[LONGEST + 2];
+    const char *both = "ST 0; LL 0 1; ST 2; LL 2 3";
+    patch_written(edit("a\nb\n", both, 0, "k equ 2"), "k equ 2\nb\n", "ST 0; LL 0 1; ST 2; VC 6 7 2; LC 2 7; ST 8; LL 8 9");
+    patch_written(edit("a\nb\n", both, 2, ""), "a\n\n", "ST 0; LL 0 1");
+    patch_written(edit("a\nb\n", both, 4, "c"), "a\nb\nc", "ST 0; LL 0 1; ST 2; LL 2 3; ST 4; LL 4 5");
+    /* 40 is by the full read of the line alone, which refuses a byte above 127 with 2 */
+    patch_written(edit("times 2;\x80", "", 0, ""), "", "");
+    patch_refused(edit("times 2;", "", 0, ""), ROOM, ROOM, refusal(40, 0, 0));
+    patch_refused(edit("times 2\n ;c\nb", "", 12, "c"), ROOM, ROOM, refusal(40, 0, 0));
+    patch_refused(edit("nop", "", 0, "times 1"), ROOM, ROOM, refusal(40, 0, 0));
+    patch_refused(edit("nop", "", 0, "times 1;\x80"), ROOM, ROOM, refusal(2, 8, 9));
+    memset(blanks, ' ', LONGEST + 1);
+    memcpy(blanks, "times 1", 7);
+    patch_refused(edit("nop", "", 0, blanks), ROOM, ROOM, refusal(1, 0, 0));
+    patch_refused(edit(blanks, "", 0, ""), ROOM, ROOM, refusal(1, 0, 0));
+    patch_refused(edit("a\nb\n", both, 1, "c"), ROOM, ROOM, refusal(42, 0, 0));
+    patch_refused(edit("a\nb\n", both, 5, "c"), ROOM, ROOM, refusal(42, 0, 0));
+    patch_refused(edit("a\nb\n", both, 0, "c\n"), ROOM, ROOM, refusal(43, 0, 0));
+    patch_refused(edit("a\nb\n", "LL 0 1", 0, "c"), ROOM, ROOM, refusal(41, 0, 0));
+    patch_refused(edit("a\nb\n", both, 2, "equ *5"), ROOM, ROOM, refusal(22, 0, 0));
+    patch_refused(edit("a\nb\n", both, 2, "dw 0abh"), ROOM, ROOM, refusal(30, 5, 8));
+}
+
+int main(void) {
+    full_reads();
+    statement_reads();
+    tokens();
+    values();
+    words();
+    patches();
+    printf("%lu\n", checks);
+    return 0;
+}
