@@ -81,7 +81,13 @@ pub fn known() -> Vec<Known> {
         Known::of("a\n", "ST 0; LL 0 1", 2, "equ *5", refused(22, 0, 0)),
         Known::of("a\n", "ST 0; LL 0 1", 2, "dw 0abh", refused(30, 5, 8)),
         Known::of("a\n0abh", "ST 0; LL 0 1", 0, "in", written("in\n0abh", "ST 0; LI 0 2 4 0 2 2")),
-        Known::of("a\nb\n", "ST 0; LL 0 1; ST 2; LL 2 3", 0, "k equ 2", written("k equ 2\nb\n", "ST 0; LL 0 1; ST 2; VC 6 7 2; LC 2 7; ST 8; LL 8 9")),
+        Known::of(
+            "a\nb\n",
+            "ST 0; LL 0 1; ST 2; LL 2 3",
+            0,
+            "k equ 2",
+            written("k equ 2\nb\n", "ST 0; LL 0 1; ST 2; VC 6 7 2; LC 2 7; ST 8; LL 8 9"),
+        ),
     ]
 }
 
