@@ -214,7 +214,8 @@ pub fn patch(
     ensures answer { λ r. ⌜ r ≡ patchAnswer (rules.patch operations (now (old .entry)) (now (listing .entry)) place (now (text .entry)) (length (now (source .entry))) (length (now (out .entry)))) ⌝ }
     ensures source { λ _. ⌜ now (source .exit) ≡ rules.patchSource (rules.patch operations (now (old .entry)) (now (listing .entry)) place (now (text .entry)) (length (now (source .entry))) (length (now (out .entry)))) (now (source .entry)) ⌝ }
     ensures listing { λ _. ⌜ now (out .exit) ≡ rules.patchListing (rules.patch operations (now (old .entry)) (now (listing .entry)) place (now (text .entry)) (length (now (source .entry))) (length (now (out .entry)))) (now (out .entry)) ⌝ }
-    ensures demand_3 { λ r. ⌜ AsFullRead (λ x. x) (now (old .entry)) (now (listing .entry)) place (now (text .entry)) (now (source .entry)) (now (source .exit)) (now (out .entry)) (now (out .exit)) r ⌝ }
+    ensures demand_3 { λ r. ⌜ AsFullRead (λ x. x) (now (old .entry)) (now (listing .entry)) place (now (text .entry))
+        (now (source .entry)) (now (source .exit)) (now (out .entry)) (now (out .exit)) r ⌝ }
 {
     if !begins_line(old, place) {
         return PatchAnswer::Refused(refused_at(42, 0, 0));

@@ -253,7 +253,8 @@ pub fn refusal_text(
 pub fn answer_text(source: &[u8], listing: &mut [u8], text: &mut [u8]) -> usize
     ensures within { λ r. ⌜ Counts r (now (text .exit)) ⌝ }
     ensures text { λ r. ⌜ Holds (answered (now (source .entry)) (now (listing .entry))) (now (text .entry)) (now (text .exit)) r ⌝ }
-    ensures whole { λ r. ⌜ (6 * length (now (listing .entry)) + 109 ≤ length (now (text .entry)) → r ≡ length (answered (now (source .entry)) (now (listing .entry)))) ⌝ }
+    ensures whole { λ r. ⌜ (6 * length (now (listing .entry)) + 109 ≤ length (now (text .entry))
+        → r ≡ length (answered (now (source .entry)) (now (listing .entry)))) ⌝ }
     ensures listing { λ _. ⌜ now (listing .exit) ≡ fullBuffer operations (now (source .entry)) (now (listing .entry)) ⌝ }
 {
     match full_read(source, listing) {

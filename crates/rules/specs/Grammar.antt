@@ -129,4 +129,5 @@ pub record OneReading : Type 0 where
   pub derives : (p : ℕ) (s : List ℕ) (line line′ : Line) (w : List Record) → LineOf p s line → expression line ≡ done w tt line′
       → (a : Tree) × (w ≡ recordsOf a) × Begins line a line′
   -- Two derivations of the same tokens, at any depths and levels, have the same tree, and the same listing.
-  pub unique : (d e : ℕ) (l m : Level) (xs : List Lexeme) (a b : Tree) → Derives d l xs a → Derives e m xs b → (a ≡ b) × (recordsOf a ≡ recordsOf b)
+  pub unique : (d e : ℕ) (l m : Level) (xs : List Lexeme) (a b : Tree) → Derives d l xs a → Derives e m xs b
+      → (a ≡ b) × (recordsOf a ≡ recordsOf b)

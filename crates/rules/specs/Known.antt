@@ -77,7 +77,8 @@ more =
     ∷ "nop\n0abh" reads refuses (at 30 4 7)
     ∷ "\n\n0abh" reads refuses (at 30 2 5)
     ∷ " \n;x\n" reads gives []
-    ∷ "rep movsb\nJNAE x\n" reads gives (ST 0 ∷ LI 0 3 46 0 3 3 ∷ ST 4 ∷ LI 4 9 48 0 9 9 ∷ ST 10 ∷ VL 15 16 ∷ OI 15 16 ∷ LI 10 16 64 1 15 16 ∷ [])
+    ∷ "rep movsb\nJNAE x\n" reads gives (
+    ST 0 ∷ LI 0 3 46 0 3 3 ∷ ST 4 ∷ LI 4 9 48 0 9 9 ∷ ST 10 ∷ VL 15 16 ∷ OI 15 16 ∷ LI 10 16 64 1 15 16 ∷ [])
     ∷ []
 
 pub more-known : Agree more
