@@ -492,8 +492,9 @@ pub fn order(mut ours: impl Patch) -> u64 {
         for open in ["replaced", "new", "above"] {
             let way = |name| has(40) && open == name;
             let above = if way("above") { "a db 1\ntimes 2\n ; bare\n\n" } else { "a db 1\n" };
-            let replaced = if way("replaced") { "times 2" } else { "b db 2" };
-            let source = format!("{above}{replaced}\nc db 3\n").into_bytes();
+            // The full read refuses the second with 2 and not with 34; its byte above 127 is not in the edited source.
+            let replaced: &[u8] = if way("replaced") { b"times 2" } else { b"times 2;\xc8" };
+            let source = [above.as_bytes(), replaced, b"\nc db 3\n"].concat();
             let mut text = b"b db 4".to_vec();
             if has(23) {
                 text = b"b db ,,".to_vec();

@@ -8,8 +8,9 @@ enum Input {
     Failed,
 }
 
-// Reads until the input ends or the buffer is full. A read that fails is not the input's end.
-fn read_input(source: &mut [u8]) -> Input {
+// Reads until the input ends or the buffer is full, which has one byte more than a source may have. A read that fails is not the input's end.
+fn read_input(input: &mut [u8; 65537]) -> Input {
+    let source: &mut [u8] = input;
     let mut n: usize = 0;
     while n < source.len() {
         let got = libc::read(STDIN_FILENO, &mut source[n..]);

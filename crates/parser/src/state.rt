@@ -10,7 +10,7 @@ ghost use Rattle.rules.specs.Statements.{nextRow};
 ghost use Rattle.parser.specs.Views.{numbersOf, textOf, line, whole, Passes, Fetches, Expects};
 
 // The token ahead stands from `token_start` to before `pos`; the last one passed in its line ended at `last_token_end`.
-// `kind` and `value` are the token's, as the lexer's scan gives them.
+// `kind` is the token's, as the lexer's scan gives it, and so is `value` where it is a number; else no reader looks at `value`.
 pub struct Parser {
     pub pos: u32,
     pub token_start: u32,

@@ -7,10 +7,13 @@ use native.Mathlib.Numerals.{add-one}
 use native.Mathlib.Nat.{add-zero, zero-add, one-le-pow}
 use lib.ListN.{length, take, drop, getD}
 use lib.Seq.{drop-cons}
+use lib.Dec.{ltb}
 use borrow.Author.Tests.{lt-ltb, le-ltb}
+use Rattle.lexer.specs.Text.{if_then_else_}
 use Rattle.io.specs.Digits.{digits, Fewest}
 use Rattle.rules.specs.Decode.{value, nth}
 use Rattle.printing.specs.Text.{decimalIn, decimal}
+use Rattle.printing.specs.Claims.{DigitsSuffice}
 use Rattle.printing.specs.Shapes.{nthsFrom, nths, lettersOf}
 
 few : (f k n : ℕ) → n < 10 ^ suc f → Fewest 10 1 n (suc k) → digits 10 (suc k) n ≡ decimalIn (suc f) n
@@ -75,3 +78,20 @@ nths-snoc i (suc n) s =
 -- one field more
 pub nths-more : (n : ℕ) (s : List ℕ) → nths (n + 1) s ≡ nths n s ++ (nth n s ∷ [])
 nths-more n s = rw add-one (nths-snoc 0 n s ∙ ap (λ (k : ℕ). nths n s ++ (nth k s ∷ [])) (zero-add n))
+
+-- a number that has at most j + 1 digits has the same with any larger count
+more-digits : (j m n : ℕ) → j ≤ m → n < 10 ^ suc j → decimalIn (suc m) n ≡ decimalIn (suc j) n
+unfolding decimalIn
+more-digits zero m n l h = let s : n < 10 = omega arith in rw (lt-ltb n 10 s)
+more-digits (suc j) zero n l h = absurd (omega arith)
+more-digits (suc j) (suc m) n l h =
+    let q : 10 ^ suc (suc j) ≡ 10 * 10 ^ suc j = omega arith in
+    ap (λ (r : List ℕ). if ltb n 10 then ((48 + n) ∷ []) else (r ++ (48 + n % 10) ∷ [])) (more-digits j m (n / 10) (omega arith) (omega arith))
+
+pub digits-suffice : DigitsSuffice
+unfolding decimal
+digits-suffice = record { enough = λ k n l h. go k n l h }
+  where
+    go : (k n : ℕ) → 20 ≤ k → n < 18446744073709551616 → decimalIn k n ≡ decimalIn 20 n
+    go zero n l h = absurd (omega arith)
+    go (suc m) n l h = more-digits 19 m n (omega arith) (omega arith)

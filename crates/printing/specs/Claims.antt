@@ -1,11 +1,15 @@
--- What is claimed of the text. The law is proved in proofs/Signed.
+-- What is claimed of the text. The laws are proved in proofs/: Digits, Signed.
 use mathlib.Core.Path.{_≡_}
 use mathlib.Core.List.{List, _++_}
-use Prim.Native.Nat.{ℕ, suc, _<_}
+use Prim.Native.Nat.{ℕ, suc, _≤_, _<_}
 use lib.Dec.{ltb}
 use lib.IntN.{ℤ, pos, negsuc, _-ℤ_}
 use Rattle.lexer.specs.Text.{if_then_else_, bytes}
-use Rattle.printing.specs.Text.{decimal, signed}
+use Rattle.printing.specs.Text.{decimalIn, decimal, signed}
+
+-- The 20 digits of `decimal` never run out: a number of 64 bits has the same text with any larger count.
+pub record DigitsSuffice : Type 0 where
+  pub enough : (k n : ℕ) → 20 ≤ k → n < 18446744073709551616 → decimalIn k n ≡ decimal n
 
 -- The number that 32 bits stand for, of which the highest is the sign's: 2³² less where that is set.
 unfoldable pub signedOf : ℕ → ℤ

@@ -16,7 +16,7 @@ decimalIn (suc k) n =
     let r : List ℕ = decimalIn k (n / 10) in
     if ltb n 10 then ((code "0" + n) ∷ []) else (r ++ (code "0" + n % 10) ∷ [])
 
--- A number of 64 bits has at most 20.
+-- A number of 64 bits has at most 20 (Claims: DigitsSuffice).
 unfoldable pub decimal : ℕ → List ℕ
 decimal n = decimalIn 20 n
 

@@ -151,7 +151,7 @@ module _ {s : List ℕ} {p : Parser} (short : length s ≤ 65536) (plain : forei
     pub never-denied : {l l′ : List ℕ} {r : Refusal} → ReadsStatements operations s p 0 l l′ (parsed.Refused r) → ⊥
     never-denied k = let (c, e, _) = denies operations s p b k in never-both (sym (first .reads) ∙ e)
 
--- The whole call, from the full read of a source that is one to read.
+-- The whole call, from the reading of a source that may be read.
 module _ (s l l′ : List ℕ) {r : FullAnswer} where
   pub call-answer : lent s (listed (length l) (reading operations s)) ≡ listed (length l) (reading operations s) → ReadsAll s l l′ r → r ≡ fullAnswer (fullRead operations s (length l))
   unfolding fullRead

@@ -173,7 +173,7 @@ fn all_statements(source: &[u8], table: &[u8; 936], out: &mut [u8], p: Parser) -
     keep_and_copy(source, table, &mut kept, out, p)
 }
 
-// The full read of a source that is one to read.
+// All statements of a source that may be read.
 fn read_all(source: &[u8], out: &mut [u8]) -> FullAnswer
     requires { ⌜ (length (now source) ≤ 65536) × (foreignPlace (now source) ≡ length (now source)) ⌝ }
     ensures { λ r. ⌜ ReadsAll (now (source .entry)) (now (out .entry)) (now (out .exit)) r ⌝ }

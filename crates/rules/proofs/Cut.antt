@@ -379,7 +379,7 @@ module _ (table : List ℕ) where
   abbrev pub Gives : ℕ → List ℕ → Answer State (Unit {0}) → Type 0
   Gives p s a = Begins table (rowsFrom p s) a
 
-  -- THE FULL READ'S FUEL IS ENOUGH: with it, or more, it is the run from its first row.
+  -- THE READING'S COUNTER IS ENOUGH: with it, or more, the reading is the run from its first row.
   pub gives-with : (p : ℕ) (s : List ℕ) (n : ℕ) → length s ≤ n → Gives p s (readRows table (suc n) (rowsFrom p s))
   unfolding readRows arrive
   gives-with p s n f =

@@ -1,4 +1,4 @@
--- SHIFT for statements and the full read.
+-- SHIFT for statements and the reading.
 use mathlib.Core.Path.{_≡_, refl, ap, _∙_}
 use mathlib.Core.Bool.{Bool, true, false, _||_}
 use mathlib.Core.List.{List, [], _∷_, _++_, map}

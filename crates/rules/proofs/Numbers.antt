@@ -7,9 +7,11 @@ use mathlib.Core.Logic.{_⊎_, inl, inr}
 use Prim.Native.Nat.{ℕ, suc, _+_}
 use native.Mathlib.Omega.{arith}
 use lib.Dec.{eqb, ltb}
+use lib.IntN.{ℤ, natAbs, _+ℤ_, _-ℤ_, _*ℤ_}
+use lib.Signed.{mag, quotZ}
 use lib.ListN.{length, take, drop}
 use borrow.Author.Tests.{eqb-true}
-use Rattle.lexer.specs.Text.{maybe, among}
+use Rattle.lexer.specs.Text.{if_then_else_, maybe, among}
 use Rattle.lexer.specs.Tokens.{tokenAt}
 use Rattle.lexer.specs.declared.Fault.the-variants.{LargerDigit, TooLarge}
 use Rattle.lexer.specs.declared.TokenRead.{TokenRead}
@@ -18,6 +20,7 @@ use Rattle.rules.specs.Records.{Record, listing}
 use Rattle.rules.specs.Reader.{Refusal, at, nowhere, encoding, valuesOf, Answer, done, refused, thence, _>>=_, refusedAs, arrive}
 use Rattle.rules.specs.Statements.{Row, State, enter, statement, statements, Outcome, accepted, refusal, readRows, readFrom, reading}
 use Rattle.rules.specs.Calls.{Result, gives, refuses, unless, tooLong, foreign, ascii, lent, lentAt, inRoom, tokenRead, tokenCall, listed, fullRead, oneFound, oneRead, statementCall}
+use Rattle.rules.specs.Evaluate.{signed32, evaluate}
 use Rattle.rules.specs.Decode.{decode}
 use Rattle.rules.specs.WellFormed.{wellFormed}
 use Rattle.rules.specs.Patch.{beginsLine, edited, behind, openLine, placedIn, reread, patched, patch}
@@ -74,6 +77,25 @@ token-numbered : (p : ℕ) (t : TokenRead) → Numbered (tokenRead p t)
 token-numbered p (Read t) = accepts
 token-numbered p (Refused n LargerDigit) = named {c = at 30 p (p + n)} (λ h. omega arith)
 token-numbered p (Refused n TooLarge) = named {c = at 31 p (p + n)} (λ h. omega arith)
+
+signed32-numbered : (z : ℤ) → Numbered (signed32 z)
+unfolding signed32
+signed32-numbered z = go (ltb (mag z) 2147483648)
+  where
+    go : (b : Bool) → Numbered (if b then (gives z) else (refuses (nowhere 50)))
+    go true = accepts
+    go false = named {c = nowhere 50} (λ e. omega arith)
+
+evaluate-numbered : (op : ℕ) (a b : ℤ) → Numbered (evaluate op a b)
+unfolding evaluate
+evaluate-numbered op a b = go (eqb op 0) (eqb op 1) (eqb op 2)
+  where
+    go : (i j k : Bool) → Numbered (if i then (signed32 (a +ℤ b)) else if j then (signed32 (a -ℤ b)) else if k then (signed32 (a *ℤ b))
+        else (unless (eqb (natAbs b) 0) (nowhere 51) (signed32 (quotZ a b))))
+    go true j k = signed32-numbered (a +ℤ b)
+    go false true k = signed32-numbered (a -ℤ b)
+    go false false true = signed32-numbered (a *ℤ b)
+    go false false false = unless-numbered (eqb (natAbs b) 0) (nowhere 51) (λ e. omega arith) (signed32-numbered (quotZ a b))
 
 module _ (table : List ℕ) where
   OutcomeNumbered : Outcome → Type 0
@@ -134,4 +156,5 @@ module _ (table : List ℕ) where
         (unless-numbered (among 10 new) (nowhere 43) (λ h. omega arith)
         (unless-numbered (tooLong old || tooLong (edited old a new)) (nowhere 1) (λ h. omega arith)
         (ascii-numbered (edited old a new) (patched-numbered old (decode bytes) a new roomS roomL))))) e;
+    ofEvaluate = λ op a b c e. tells (evaluate-numbered op a b) e;
   }

@@ -1,4 +1,4 @@
--- Every statement read moves forward, so that the fuel of the full read is enough.
+-- Every statement read moves forward, so that the counter of the reading is enough.
 use mathlib.Core.Path.{_≡_, refl, sym, _∙_}
 use mathlib.Core.Bool.{Bool, true, false, true≢false}
 use mathlib.Core.List.{List, [], _∷_, append-nil}

@@ -3,6 +3,7 @@ use mathlib.Core.Path.{_≡_}
 use mathlib.Core.Bool.{true}
 use mathlib.Core.List.{List, [], _∷_, _++_, map}
 use Prim.Native.Nat.{ℕ, suc, _+_, _-_, _≤_}
+use lib.IntN.{ℤ}
 use lib.ListN.{length}
 use Rattle.names.specs.Table.{operations}
 use Rattle.rules.specs.Lexemes.{tokensFrom}
@@ -13,6 +14,7 @@ use Rattle.rules.specs.Grammar.{LineOf}
 use Rattle.rules.specs.Operands.{operandSized}
 use Rattle.rules.specs.Statements.{rows, literals, readRows}
 use Rattle.rules.specs.Calls.{gives, refuses, tokenCall, statementCall, fullRead}
+use Rattle.rules.specs.Evaluate.{evaluate}
 use Rattle.rules.specs.WellFormed.{wellFormed}
 use Rattle.rules.specs.Patch.{recordsOn, patch}
 
@@ -33,6 +35,7 @@ pub record NumbersTell (table : List ℕ) : Type 0 where
   pub ofFullRead : (source : List ℕ) (room : ℕ) (c : Refusal) → fullRead table source room ≡ refuses c → ¬ (valuesOf c .number ≡ 0)
   pub ofPatch : (old bytes : List ℕ) (a : ℕ) (new : List ℕ) (roomS roomL : ℕ) (c : Refusal) → patch table old bytes a new roomS roomL ≡ refuses c
       → ¬ (valuesOf c .number ≡ 0)
+  pub ofEvaluate : (op : ℕ) (a b : ℤ) (c : Refusal) → evaluate op a b ≡ refuses c → ¬ (valuesOf c .number ≡ 0)
 
 -- Something holds of each element of a list.
 abbrev pub Each : {A : Type 0} → (A → Type 0) → List A → Type 0
