@@ -13,7 +13,8 @@ use Rattle.rules.specs.Reader.{at, nowhere, encoding, valuesOf, Answer, 
 use Rattle.rules.specs.Statements.{State, Outcome, accepted, refusal, outcome, reading}
 use Rattle.rules.specs.Calls.{Result, gives, refuses, unless, tooLong, foreign, ascii, lent, inRoom, listed, fullRead, enough}
 use Rattle.rules.specs.Patch.{linesFrom, bareLine, nearest, isOpen, leavesOpen}
-use Rattle.rules.proofs.Calls.{Ascii, ascii-append, Readable, readable-lent}
+use Rattle.rules.proofs.Shape.{up-to-append}
+use Rattle.rules.proofs.Calls.{Ascii, Readable, readable-lent}
 use Rattle.rules.proofs.Cut.{IsOpen, Gives, from-run}
 use Rattle.rules.proofs.Exchange.{Closed}
 
@@ -76,7 +77,7 @@ lines-readable : (l s : List ℕ) → length l + length s ≤ 65536 → Ascii l 
 unfolding linesFrom
 lines-readable l [] h i j = tt
 lines-readable l (c ∷ cs) h i j = go (is "\n" c) (lines-readable [] cs (omega arith) tt (j .1))
-    (lines-readable (l ++ (c ∷ [])) cs (omega (arith, length-append l (c ∷ []))) (ascii-append l (c ∷ []) i (j .0, tt)) (j .1))
+    (lines-readable (l ++ (c ∷ [])) cs (omega (arith, length-append l (c ∷ []))) (up-to-append 127 l (c ∷ []) i (j .0, tt)) (j .1))
   where
     go : (b : Bool) → All (linesFrom [] cs) → All (linesFrom (l ++ (c ∷ [])) cs) → All (if b then (l ∷ linesFrom [] cs) else (linesFrom (l ++ (c ∷ [])) cs))
     go true m n = (record { short = omega arith; plain = i }, m)

@@ -13,7 +13,7 @@ use Rattle.rules.specs.Records.{Record, listing}
 use Rattle.rules.specs.Reader.{Refusal, at, nowhere}
 use Rattle.rules.specs.Statements.{Outcome, accepted, refusal, reading}
 use Rattle.rules.specs.Calls.{Result, gives, refuses, unless, mostBytes, tooLong, foreign, ascii, lent, lentAt, inRoom, listed, fullRead}
-use Rattle.rules.proofs.Shape.{Small}
+use Rattle.rules.proofs.Shape.{UpTo, up-to-more, Small}
 
 pub unless-gives : {A : Type 0} (b : Bool) (r : Refusal) (x : Result A) (y : A) → unless b r x ≡ gives y → (b ≡ false) × (x ≡ gives y)
 unfolding unless
@@ -22,8 +22,7 @@ unless-gives false r x y h = (refl, h)
 
 -- No byte is above 127.
 abbrev pub Ascii : List ℕ → Type 0
-Ascii [] = Unit {0}
-Ascii (c ∷ cs) = (c ≤ 127) × Ascii cs
+Ascii s = UpTo 127 s
 
 pub none-foreign : (p : ℕ) (s : List ℕ) → foreign p s ≡ none → Ascii s
 unfolding foreign
@@ -40,16 +39,7 @@ foreign-none p [] h = refl
 foreign-none p (c ∷ cs) h = rw (le-ltb 127 c (h .0)) (foreign-none (suc p) cs (h .1))
 
 pub ascii-small : (s : List ℕ) → Ascii s → Small s
-ascii-small [] h = tt
-ascii-small (c ∷ cs) h = (omega (arith, h .0), ascii-small cs (h .1))
-
-pub ascii-split : (a b : List ℕ) → Ascii (a ++ b) → Ascii a × Ascii b
-ascii-split [] b h = (tt, h)
-ascii-split (c ∷ cs) b h = let (i, j) = ascii-split cs b (h .1) in ((h .0, i), j)
-
-pub ascii-append : (a b : List ℕ) → Ascii a → Ascii b → Ascii (a ++ b)
-ascii-append [] b h i = i
-ascii-append (c ∷ cs) b h i = (h .0, ascii-append cs b (h .1) i)
+ascii-small s h = up-to-more 127 (omega arith) s h
 
 -- A source that 1 and 2 let pass.
 pub record Readable (s : List ℕ) : Type 0 where

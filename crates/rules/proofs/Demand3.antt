@@ -19,8 +19,8 @@ use Rattle.lexer.proofs.TokensLine.{Lines}
 use Rattle.rules.specs.Calls.{Result, gives, refuses, unless, mostBytes, tooLong, foreign, ascii, lent, inRoom, listed, fullRead}
 use Rattle.rules.specs.Decode.{decode}
 use Rattle.rules.specs.Patch.{beginsLine, above, lineAt, behind, edited, linesFrom, nearest, leavesOpen, openLine, statementFrom, recordsBelow, recordsOn, Edit, exchanged, placedIn, reread, patched, patch}
-use Rattle.rules.proofs.Shape.{Small, small-split, small-append, small-parts}
-use Rattle.rules.proofs.Calls.{none-foreign, ascii-small, ascii-split, Readable, Accepted, accepted-call}
+use Rattle.rules.proofs.Shape.{up-to-split, Small, small-split, small-append, small-parts}
+use Rattle.rules.proofs.Calls.{none-foreign, ascii-small, Readable, Accepted, accepted-call}
 use Rattle.rules.proofs.Alone.{not-open, closed, nearest-readable}
 use Rattle.rules.proofs.Table.{Proper}
 use Rattle.rules.proofs.Cut.{Gives, lineFeed, from-run, accepts-run, refuses-run, gives as given}
@@ -68,7 +68,7 @@ readable-same : {s t : List ℕ} → s ≡ t → Readable s → Readable t
 readable-same e h = rw e at h
 
 readable-split : (a b : List ℕ) → Readable (a ++ b) → Readable a × Readable b
-readable-split a b r = let (i, j) = ascii-split a b (r .plain) in
+readable-split a b r = let (i, j) = up-to-split 127 a b (r .plain) in
     let n : length (a ++ b) ≤ 65536 = r .short in
     (record { short = omega (arith, length-append a b); plain = i }, record { short = omega (arith, length-append a b); plain = j })
 

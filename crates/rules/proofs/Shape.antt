@@ -47,18 +47,33 @@ Extra (LD f t d) = length d ≤ 4 * t
 Extra (LC f t) = Unit {0}
 Extra LT = Unit {0}
 
--- Tokens in order, from lo to n; a token that ends no line has a byte and ends by hi.
+-- No number of a list is above m.
+abbrev pub UpTo : ℕ → List ℕ → Type 0
+UpTo m [] = Unit {0}
+UpTo m (c ∷ cs) = (c ≤ m) × UpTo m cs
+
+module _ (m : ℕ) where
+  pub up-to-split : (a b : List ℕ) → UpTo m (a ++ b) → UpTo m a × UpTo m b
+  up-to-split [] b h = (tt, h)
+  up-to-split (c ∷ a) b h = let (i, j) = up-to-split a b (h .1) in ((h .0, i), j)
+
+  pub up-to-append : (a b : List ℕ) → UpTo m a → UpTo m b → UpTo m (a ++ b)
+  up-to-append [] b h i = i
+  up-to-append (c ∷ a) b h i = (h .0, up-to-append a b (h .1) i)
+
+  pub up-to-more : {n : ℕ} → m ≤ n → (s : List ℕ) → UpTo m s → UpTo n s
+  up-to-more k [] h = tt
+  up-to-more k (c ∷ cs) h = (le-trans (h .0) k, up-to-more k cs (h .1))
+
+-- Bytes, as any numbers that a field's 32 bits can hold as signed ones.
 abbrev pub Small : List ℕ → Type 0
-Small [] = Unit {0}
-Small (c ∷ cs) = (c ≤ 2147483647) × Small cs
+Small s = UpTo 2147483647 s
 
 pub small-split : (a b : List ℕ) → Small (a ++ b) → Small a × Small b
-small-split [] b h = (tt, h)
-small-split (c ∷ a) b h = let (i, j) = small-split a b (h .1) in ((h .0, i), j)
+small-split a b h = up-to-split 2147483647 a b h
 
 pub small-append : (a b : List ℕ) → Small a → Small b → Small (a ++ b)
-small-append [] b h i = i
-small-append (c ∷ a) b h i = (h .0, small-append a b (h .1) i)
+small-append a b h i = up-to-append 2147483647 a b h i
 
 pub small-parts : (n : ℕ) (s : List ℕ) → Small s → Small (take n s) × Small (drop n s)
 small-parts n s h = small-split (take n s) (drop n s) (rw (take-append-drop n s) h)
@@ -80,6 +95,7 @@ pub record Sound (hi : ℕ) (x : Lexeme) : Type 0 where
   pub strict : isLineEnd (x .kind) ≡ false → (x .from < x .to) × (x .to ≤ hi)
   pub holds : Holds (x .kind) (x .from) (x .to)
 
+-- Tokens in order, from lo to n; a token that ends no line has a byte and ends by hi.
 abbrev pub Chain : ℕ → ℕ → ℕ → List Lexeme → Type 0
 Chain n hi lo [] = lo ≤ n
 Chain n hi lo (x ∷ xs) = (lo ≤ x .from) × Sound hi x × Chain n hi (x .to) xs
