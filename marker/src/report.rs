@@ -1,0 +1,142 @@
+//! A refusal as a person reads it: the file, the line and the column, the words, the line itself and a mark under the place.
+use laqhoncu::{Refusal, Span, TokenKind, listing, refusals, token};
+
+/// The most bytes of a line that are shown; of a longer one, those round the place.
+const SHOWN: usize = 100;
+const BEFORE: usize = 60;
+
+/// Where a line begins in a source, by its number from 1 on; a line begins at 0 and behind each line feed.
+pub fn line_start(source: &[u8], line: usize) -> Option<usize> {
+    match line {
+        0 => None,
+        1 => Some(0),
+        _ => source.iter().enumerate().filter(|(_, byte)| **byte == b'\n').nth(line - 2).map(|(place, _)| place + 1),
+    }
+}
+
+pub fn count_lines(source: &[u8]) -> usize {
+    1 + source.iter().filter(|byte| **byte == b'\n').count()
+}
+
+/// The line that begins at a place, without its line feed.
+pub fn line_at(source: &[u8], start: usize) -> &[u8] {
+    let rest = &source[start..];
+    &rest[..rest.iter().position(|byte| *byte == b'\n').unwrap_or(rest.len())]
+}
+
+/// The operator that refusal 22 is about; the rules give it no place. A source cut behind an operator is refused with 22 just where
+/// that operator, or one above it, is the one, so they are searched by halves.
+fn invalid_prefix(source: &[u8]) -> Option<Span> {
+    let (mut operators, mut place) = (Vec::new(), 0);
+    while let Ok(token) = token(source, place) {
+        match token.kind {
+            TokenKind::EndOfFile => break,
+            TokenKind::Punctuation(b'*' | b'/') => operators.push(token.span),
+            _ => {}
+        }
+        place = token.span.to;
+    }
+    let is_before = |span: &Span| !matches!(listing(&source[..span.to]), Err(Refusal { number: refusals::INVALID_PREFIX_OPERATOR, .. }));
+    operators.get(operators.partition_point(is_before)).copied()
+}
+
+/// The refusal of a source, or of one line of it as a source of its own, whose first line has the number `line`.
+pub fn refusal(name: &str, source: &[u8], line: usize, refused: &Refusal) -> String {
+    let place = match refused.number {
+        refusals::INVALID_PREFIX_OPERATOR => invalid_prefix(source),
+        _ => refused.place(),
+    };
+    match place {
+        None => format!("{name}: {refused}\n"),
+        Some(span) => at(name, source, line, span, &refused.to_string()),
+    }
+}
+
+/// Words about a span of a source, whose first line has the number `line`.
+pub fn at(name: &str, source: &[u8], line: usize, span: Span, words: &str) -> String {
+    let from = span.from.min(source.len());
+    let above = &source[..from];
+    let start = above.iter().rposition(|byte| *byte == b'\n').map_or(0, |feed| feed + 1);
+    let (line, column) = (line + count_lines(above) - 1, from - start);
+    let text = line_at(source, start);
+    format!("{name}:{line}:{}: {words}\n{}", column + 1, excerpt(text, column, span.to.saturating_sub(start)))
+}
+
+/// A line, and below it a mark under the bytes from..to, one at least.
+fn excerpt(line: &[u8], from: usize, to: usize) -> String {
+    let line = line.strip_suffix(b"\r").unwrap_or(line);
+    let first = if line.len() <= SHOWN { 0 } else { from.saturating_sub(BEFORE) };
+    let last = line.len().min(first + SHOWN);
+    let (open, close) = (if first > 0 { "..." } else { "" }, if last < line.len() { "..." } else { "" });
+    // The place may be behind the line's end: its line feed, or the CR before it.
+    let (from, behind) = (from.min(last), from.saturating_sub(last));
+    let to = to.clamp(from, last);
+    let blanks: String = shown(&line[first..from]).chars().map(|c| if c == '\t' { c } else { ' ' }).collect();
+    format!(
+        "    {open}{}{close}\n    {}{blanks}{}{}\n",
+        shown(&line[first..last]),
+        " ".repeat(open.len()),
+        " ".repeat(behind),
+        "^".repeat(shown(&line[from..to]).chars().count().max(1))
+    )
+}
+
+/// Bytes as text that does nothing to a terminal.
+fn shown(bytes: &[u8]) -> String {
+    let visible = |c: char| if c.is_control() && c != '\t' { '?' } else { c };
+    String::from_utf8_lossy(bytes).chars().map(visible).collect()
+}
+
+#[cfg(test)]
+mod tests {
+    use super::*;
+
+    fn said(source: &str) -> String {
+        refusal("f", source.as_bytes(), 1, &listing(source.as_bytes()).unwrap_err())
+    }
+
+    #[test]
+    fn a_mark_under_the_place() {
+        assert_eq!(said("nop\n\tdw 1, 0abh, 2\n"), "f:2:8: a binary number has a digit above 1\n    \tdw 1, 0abh, 2\n    \t      ^^^\n");
+        assert_eq!(said("equ"), "f:1:4: a value or an operand is expected\n    equ\n       ^\n");
+        assert_eq!(said("equ \r\nnop"), "f:1:6: a value or an operand is expected\n    equ \n         ^\n");
+        assert_eq!(said("mov [ ax],bx"), "f:1:7: these registers make no address: ax\n    mov [ ax],bx\n          ^\n");
+        assert_eq!(said("a\x1b[2J"), "f:1:2: an instruction is expected\n    a?[2J\n     ^\n");
+    }
+
+    #[test]
+    fn a_character_of_several_bytes() {
+        assert_eq!(said("; é\nnop"), "f:1:3: a character that is not ASCII\n    ; é\n      ^\n");
+    }
+
+    #[test]
+    fn no_place() {
+        assert_eq!(said(&" ".repeat(65537)), "f: a file may have at most 65,536 bytes\n");
+    }
+
+    #[test]
+    fn the_operator_without_a_place() {
+        let words = "`*` or `/` stands where a value should begin";
+        assert_eq!(said("a equ 2*3\nb equ 4/*5 ; 1/2\n*"), format!("f:2:9: {words}\n    b equ 4/*5 ; 1/2\n            ^\n"));
+        assert_eq!(said("equ *5"), format!("f:1:5: {words}\n    equ *5\n        ^\n"));
+        assert_eq!(said("times 2\n\ndw 1\nequ (/"), format!("f:4:6: {words}\n    equ (/\n         ^\n"));
+    }
+
+    #[test]
+    fn a_long_line() {
+        let line = format!("db {} x {}", "1,".repeat(200), "1,".repeat(200));
+        let (head, excerpt) = said(&line).split_once('\n').map(|(a, b)| (a.to_string(), b.to_string())).unwrap();
+        assert_eq!(head, "f:1:405: a number or a quoted text is expected");
+        let (text, mark) = excerpt.trim_end_matches('\n').split_once('\n').unwrap();
+        assert!(text.starts_with("    ...") && text.ends_with("...") && text.len() == 4 + 3 + SHOWN + 3);
+        assert_eq!(text.as_bytes()[mark.find('^').unwrap()], b'x');
+    }
+
+    #[test]
+    fn lines_by_number() {
+        let start = |line| line_start(b"a\n\nb\n", line);
+        assert_eq!([0, 1, 2, 3, 4, 5, usize::MAX].map(start), [None, Some(0), Some(2), Some(3), Some(5), None, None]);
+        assert_eq!((count_lines(b""), count_lines(b"a\n\nb\n")), (1, 4));
+        assert_eq!((line_at(b"a\nbc\n", 2), line_at(b"a\nbc\n", 5)), (b"bc".as_slice(), b"".as_slice()));
+    }
+}
