@@ -23,6 +23,8 @@
 //!
 //! A call needs stack: the header `laqhoncu.h` says how much. The stack of a Rust thread is long enough.
 
+#![warn(missing_docs)]
+
 mod ffi;
 mod names;
 mod records;
@@ -44,7 +46,9 @@ pub const LISTING_FACTOR: usize = 18;
 /// Some bytes of a source, `to` not included. At [`INVALID_INDIRECT_ENCODING`](refusals::INVALID_INDIRECT_ENCODING) `to` may be below `from`.
 #[derive(Clone, Copy, Debug, Default, PartialEq, Eq, Hash)]
 pub struct Span {
+    /// The place of the first byte.
     pub from: usize,
+    /// The place behind the last byte.
     pub to: usize,
 }
 
@@ -64,24 +68,30 @@ impl fmt::Display for Span {
 /// A token, and the bytes that it has.
 #[derive(Clone, Copy, Debug, PartialEq, Eq, Hash)]
 pub struct Token {
+    /// What it is.
     pub kind: TokenKind,
+    /// Its bytes.
     pub span: Span,
 }
 
+/// What a token is.
 #[derive(Clone, Copy, Debug, PartialEq, Eq, Hash)]
 pub enum TokenKind {
     /// Spaces, tabs and CR.
     Whitespace,
     /// From `;` to before the line feed.
     Comment,
+    /// A line feed.
     NewLine,
     /// Nothing is left; the one token without a byte.
     EndOfFile,
     /// A name, an operation, a register, ..
     Identifier,
+    /// A number, and its value.
     Number(i32),
-    /// A quoted text, with or without its closing quote.
+    /// A quoted text.
     Text {
+        /// Whether its closing quote is there, in the same line.
         closed: bool,
     },
     /// One of `[ ] ( ) : , $ . / - + *`
@@ -90,17 +100,21 @@ pub enum TokenKind {
     Invalid(u8),
 }
 
-/// How many bytes a statement's records have, and where the token behind the statement is.
+/// A statement that was read.
 #[derive(Clone, Copy, Debug, PartialEq, Eq, Hash)]
 pub struct Statement {
+    /// How many bytes its records have.
     pub length: usize,
+    /// Where the token behind it is: the place to read the next one at.
     pub ahead: usize,
 }
 
-/// How many bytes of each buffer the patch has written.
+/// What the patch has written.
 #[derive(Clone, Copy, Debug, PartialEq, Eq, Hash)]
 pub struct Patched {
+    /// How many bytes the edited source has.
     pub source: usize,
+    /// How many bytes its listing has.
     pub listing: usize,
 }
 

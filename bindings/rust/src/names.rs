@@ -76,7 +76,10 @@ numbered! {
 /// A word that stands for itself in an operand.
 #[derive(Clone, Copy, Debug, PartialEq, Eq, Hash)]
 pub enum Name {
+    /// A general register.
     Register(Register),
+    /// A segment register.
     Segment(Segment),
+    /// A size word.
     Size(Size),
 }

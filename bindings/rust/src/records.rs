@@ -6,6 +6,7 @@ use std::fmt;
 ///
 /// Its text ([`Display`](fmt::Display)) is its line in what the program `listing` prints.
 #[derive(Clone, Copy, Debug, PartialEq, Eq, Hash)]
+#[allow(missing_docs)] // of fields: each variant says it all
 pub enum Record<'a> {
     /// ST: a statement, whose first token is at this place. What stands inside `times` has none.
     Statement { place: usize },

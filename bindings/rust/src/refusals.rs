@@ -65,6 +65,7 @@ pub struct Refusal {
     pub span: Span,
     /// The registers that make no address, at [`INVALID_INDIRECT_ENCODING`] alone.
     pub first: Option<Register>,
+    /// As `first`, where there are two.
     pub second: Option<Register>,
 }
 
