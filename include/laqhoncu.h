@@ -1,5 +1,5 @@
-/* The functions of the static library (`rt staticlib exports`). Their contracts are in crates/exports/src/lib.rt; what the fields
-   hold in each case is defined in crates/exports/specs/. Any arguments may be given, as long as a pointer and the length behind it
+/* The functions of the static library (`rt staticlib laqhoncu`). Their contracts are in crates/laqhoncu/src/lib.rt; what the fields
+   hold in each case is defined in crates/laqhoncu/specs/. Any arguments may be given, as long as a pointer and the length behind it
    name bytes that the caller has lent, and the bytes of `out`, and of `source` in the patch, are no others'. Nothing is kept after a call. */
 #ifndef LAQHONCU_H
 #define LAQHONCU_H
