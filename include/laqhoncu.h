@@ -86,10 +86,6 @@ struct laqhoncu_valuation laqhoncu_evaluate(uint8_t operator_number, int32_t lef
 /* What a word names, case ignored. An operation: 0 to 98, or 255. */
 uint8_t laqhoncu_operation(const uint8_t *word, size_t length);
 
-/* The same for many words, by one table: each row of eight bytes holds a word's length and up to seven letters; a longer word is none.
-   Where the rows end first, the rest of `numbers` is left as it was. */
-void laqhoncu_operations(const uint8_t *rows, size_t length, uint8_t *numbers, size_t count);
-
 /* A register (0 to 15), a segment (256 to 259), a size (512 `byte`, 513 `word`), or 65535. */
 uint16_t laqhoncu_name(const uint8_t *word, size_t length);
 

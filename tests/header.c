@@ -236,17 +236,9 @@ static void values(void) {
 
 static void word(const char *text, uint8_t operation, uint16_t name, uint8_t directive) {
     size_t length = strlen(text);
-    uint8_t row[9], numbers[2];
     check(laqhoncu_operation(bytes(text), length) == operation, "its operation", text);
     check(laqhoncu_name(bytes(text), length) == name, "its register, segment or size", text);
     check(laqhoncu_directive(bytes(text), length) == directive, "its directive", text);
-    /* one row, two places for numbers: the second is left as it was */
-    memset(row, 0, sizeof row);
-    row[0] = (uint8_t)length;
-    memcpy(row + 1, text, length);
-    numbers[0] = numbers[1] = 0xA5;
-    laqhoncu_operations(row, 8, numbers, 2);
-    check(numbers[0] == operation && numbers[1] == 0xA5, "its operation, by rows", text);
 }
 
 static void words(void) {

@@ -1,4 +1,3 @@
 pub mod Signed
-pub mod LookedUp
 pub mod Counting
 pub mod Writing

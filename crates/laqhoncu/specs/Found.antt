@@ -1,8 +1,6 @@
 -- Tokens and names as the numbers that Rust and C take.
 use Prim.Native.Nat.{ℕ, _+_}
 use mathlib.Core.Bool.{Bool, true, false}
-use mathlib.Core.List.{List, [], _∷_}
-use lib.ListN.{take, drop, getD}
 use lib.IntN.{ℤ, pos}
 use Rattle.lexer.specs.Tokens.{faultNumber}
 use Rattle.lexer.specs.Scanned.{character, endOfFile, newLine, whitespace, comment, identifier, number, closed, unclosed, invalid}
@@ -12,8 +10,6 @@ use Rattle.lexer.specs.declared.Token.{Token}
 use Rattle.lexer.specs.declared.Token.the-variants.{Whitespace, Identifier, Literal, Punctuation, Comment, NewLine, EndOfFile, Invalid}
 use Rattle.lexer.specs.declared.Next.{Next}
 use Rattle.lexer.specs.declared.Next.the-variants.{Token as token, Refused as refused}
-use Rattle.names.specs.Table.{operations}
-use Rattle.names.specs.Names.{operationNamed, foundOf}
 use Rattle.names.specs.declared.Found.{Found}
 use Rattle.names.specs.declared.Found.the-variants.{Operation, Nothing}
 use Rattle.names.specs.declared.Name.{Name}
@@ -54,19 +50,6 @@ nextFound (refused f from to) = plain (faultNumber f) to
 abbrev pub operationByte : Found → ℕ
 operationByte (Operation n) = n
 operationByte Nothing = 255
-
--- a row of words: the length of its first word, then the letters
-abbrev pub wordIn : List ℕ → List ℕ
-wordIn rows = take (getD rows 0 0) (drop 1 rows)
-
-unfoldable pub numberIn : List ℕ → ℕ
-numberIn rows = operationByte (foundOf (operationNamed operations (wordIn rows)))
-
--- For each row of eight bytes the number of its word's operation; where no row is left, what was there.
-unfoldable pub lookedUp : List ℕ → List ℕ → List ℕ
-lookedUp rows [] = []
-lookedUp [] (n ∷ ns) = n ∷ ns
-lookedUp (r ∷ rs) (n ∷ ns) = numberIn (r ∷ rs) ∷ lookedUp (drop 8 (r ∷ rs)) ns
 
 -- registers from 0 on, segments from 256 on, sizes from 512 on, and 65535 where it names none of these
 abbrev pub nameNumber : Name → ℕ

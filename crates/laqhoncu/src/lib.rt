@@ -29,7 +29,7 @@ ghost use Rattle.parser.specs.Operators.{operatorNumber, resultOf};
 ghost use Rattle.reader.specs.Calls.{tokenAnswer, statementAnswer, fullAnswer};
 ghost use Rattle.patch.specs.Patched.{patchAnswer, AsFullRead};
 ghost use Rattle.laqhoncu.specs.Found as spec;
-ghost use Rattle.laqhoncu.specs.Found.{literalFound, tokenFound, nextFound, operationByte, lookedUp, nameNumber, directiveByte};
+ghost use Rattle.laqhoncu.specs.Found.{literalFound, tokenFound, nextFound, operationByte, nameNumber, directiveByte};
 ghost use Rattle.laqhoncu.specs.Readings as readings;
 ghost use Rattle.laqhoncu.specs.Readings.{fullReading, Written, statementReading, tokenReading, patching, valuation, valued};
 
@@ -440,28 +440,6 @@ pub extern "C" fn laqhoncu_evaluate(operator: u8, left: i32, right: i32) -> Valu
     Valuation {
         refusal: numbered(255),
         value: 0,
-    }
-}
-
-// The operations that many words name, by one table. A row of eight bytes holds a word's length and up to seven letters; where
-// the rows end first, the rest of `numbers` is left as it was. A longer word is no operation's.
-#[no_mangle]
-pub extern "C" fn laqhoncu_operations(rows: &[u8], numbers: &mut [u8])
-    ensures { λ _. ⌜ now (numbers .exit) ≡ lookedUp (now (rows .entry)) (now (numbers .entry)) ⌝ }
-{
-    let table = names::table();
-    let mut i: usize = 0;
-    let mut at: usize = 0;
-    while i < numbers.len() {
-        if rows.len() <= at {
-            return;
-        }
-        let size = rows[at] as usize;
-        let word = lexer::source_at(rows, at + 1, size);
-        let found = names::operation(&table, word);
-        numbers[i] = operation_byte(found);
-        i += 1;
-        at += 8;
     }
 }
 
