@@ -229,14 +229,7 @@ fn listing_text(listing: &[u8], out: &mut [u8]) -> usize
 }
 
 // The text of a refusal in `out`, and its length.
-fn refusal_text(
-    number: u32,
-    from: u32,
-    to: u32,
-    first: u32,
-    second: u32,
-    out: &mut [u8],
-) -> usize
+fn refusal_text(number: u32, from: u32, to: u32, first: u32, second: u32, out: &mut [u8]) -> usize
     ensures { λ r. ⌜ Holds (refusalText number from to first second) (now (out .entry)) (now (out .exit)) r ⌝ }
 {
     let at = put_all(out, 0, b"REF");
