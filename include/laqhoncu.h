@@ -34,8 +34,8 @@ extern "C" {
 #define LAQHONCU_LISTING_FACTOR 18
 
 /* The bytes of stack that a call needs, with all that it calls; a fifth of each or more is to spare. A thread that calls needs its own
-   besides. The full read and the patch take theirs at every call, be the source as short as it may. OTHER is for each function that has no
-   number of its own. */
+   besides. However short the source, the full read takes most of its number, and so does a patch that reads a line. OTHER is for each function
+   that has no number of its own. */
 #define LAQHONCU_STACK_FULL_READ 356352
 #define LAQHONCU_STACK_PATCH 438272
 #define LAQHONCU_STACK_STATEMENT_READ 28672
@@ -79,8 +79,7 @@ enum laqhoncu_refusal {
     LAQHONCU_NOTHING_AFTER_OVERRIDE = 32, /* `[es:]`; span: from bracket to bracket */
     LAQHONCU_TWO_INDEX_REGISTERS = 33, /* si or di, plus si or di; span: both registers */
     LAQHONCU_TIMES_WITHOUT_CONTENT = 34, /* the source ends before a `times` has its content; span: the innermost such word */
-    LAQHONCU_TIMES_LEFT_OPEN = 40, /* patch: the old line, the new one, or the nearest above that has more than blanks and a comment,
-                                      read alone, is refused with 34; span 0..0 */
+    LAQHONCU_TIMES_LEFT_OPEN = 40, /* patch: one of the lines that laqhoncu_patch names below is, read alone, refused with 34; span 0..0 */
     LAQHONCU_LISTING_NOT_WELL_FORMED = 41, /* patch: `listing` is no listing of a source of that length; span 0..0 */
     LAQHONCU_NO_SUCH_PLACE = 42, /* a place beyond the end, in the patch one where no line begins; span 0..0 */
     LAQHONCU_LINE_FEED_IN_TEXT = 43, /* patch: the new text has a line feed; span 0..0 */
@@ -112,7 +111,7 @@ enum laqhoncu_kind {
     LAQHONCU_KIND_NUMBER = '0', /* a number, up to 2147483647 */
     LAQHONCU_KIND_CLOSED_STRING = '\'', /* a string with both its quotes */
     LAQHONCU_KIND_UNCLOSED_STRING = '"', /* a string that the line's or the source's end cuts off */
-    LAQHONCU_KIND_INVALID = '!', /* a byte that begins no token */
+    LAQHONCU_KIND_INVALID = '!', /* one byte that begins no other token, as the first digit of a number that does not fit */
 };
 
 /* A token. `kind`: see above. `value`: a number's value, an invalid token's byte, and else 0. `end`: the place behind the token, where the
@@ -201,7 +200,8 @@ size_t laqhoncu_count(const uint8_t *source, size_t length);
    stays. The edited source goes to `source` (`source_room` bytes) and its listing to `out` (`room` bytes). `listing` is the old source's, as
    the full read has written it; only the new line is read, beside those that 40 is about. With such a listing the answer and what is in
    `out` are those of a full read of the edited source, but for 6, 40, 42 and 43. The records of any other well-formed listing are copied and
-   moved all the same. */
+   moved all the same. 40 is about the old line, the new one, and the nearest above that has more than blanks and a comment: none may end in a
+   `times` whose content is on a later line. To change such a line, edit the source and read all of it. */
 struct laqhoncu_patching {
     struct laqhoncu_numbers refusal;
     size_t source; /* the bytes written to `source`; at a refusal 0 */
