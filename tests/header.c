@@ -1,12 +1,13 @@
-/* Calls every function that include/laqhoncu.h declares, with answers that document 01 gives: its samples, its refusals, its edits.
-   Buffers hold a pattern before each call and are looked through after it. Ends with status 1 at the first difference; else prints how
-   many answers were compared. */
+/* Calls every function that include/laqhoncu.h declares, with answers that document 01 gives: its samples, its edits, each of its refusals.
+   Buffers hold a pattern before each call and are looked through after it. The arguments are what the header's comment says of operations and
+   registers: `operation` or `register`, its number and a spelling, as often as there are such. Ends with status 1 at the first difference; else
+   prints how many answers were compared. */
 #include "laqhoncu.h"
 #include <stdio.h>
 #include <stdlib.h>
 #include <string.h>
 
-enum { LONGEST = 65536, ROOM = 4096 };
+enum { LONGEST = LAQHONCU_SOURCE_MAX, ROOM = 4096 };
 
 static unsigned long checks;
 
@@ -36,16 +37,22 @@ static int left(const uint8_t *buffer, size_t written, size_t room) {
 
 static const uint8_t *bytes(const char *text) { return (const uint8_t *)text; }
 
+/* Without registers. */
 static struct laqhoncu_numbers refusal(uint32_t number, uint32_t from, uint32_t to) {
-    struct laqhoncu_numbers n = {0, 0, 0, 255, 255};
+    struct laqhoncu_numbers n = {0, 0, 0, LAQHONCU_NONE, LAQHONCU_NONE};
     n.number = number;
     n.from = from;
     n.to = to;
     return n;
 }
 
+/* The numbers that were wanted, and answered. */
+static int met[256];
+
 static int same_numbers(struct laqhoncu_numbers a, struct laqhoncu_numbers b) {
-    return a.number == b.number && a.from == b.from && a.to == b.to && a.first == b.first && a.second == b.second;
+    if (a.number != b.number || a.from != b.from || a.to != b.to || a.first != b.first || a.second != b.second) return 0;
+    if (a.number < 256) met[a.number] = 1;
+    return 1;
 }
 
 /* The bytes of records such as `ST 0; LL 0 1`: two letters, then fields of four bytes, low first; behind LD's three fields, bytes. */
@@ -77,6 +84,7 @@ static void reads(const char *source, const char *records) {
     int i;
     rooms[0] = n + 9;
     rooms[1] = n;
+    check(n <= LAQHONCU_LISTING_FACTOR * length, "the listing is longer than the header allows", source);
     for (i = 0; i < 2; i++) {
         struct laqhoncu_full_reading said;
         fill(out, ROOM);
@@ -134,6 +142,26 @@ static void full_reads(void) {
     refuses("equ 2147483648", 21, 4, 5);
     refuses("times 2", 34, 0, 5);
     refuses("a\x80", 2, 1, 2);
+    /* the other refusals of a reading */
+    reads("equ (((((((((((((((((((((((((((((((1)))))))))))))))))))))))))))))))", "ST 0; VC 35 36 1; LC 0 67");
+    refuses("equ ((((((((((((((((((((((((((((((((1))))))))))))))))))))))))))))))))", 3, 36, 37);
+    refuses("times 1 times 1 times 1 times 1 times 1 times 1 times 1 times 1 times 1 times 1 times 1 times 1 times 1 times 1 times 1 times 1 times 1 nop",
+            5, 128, 133);
+    refuses("equ 2 3", 10, 6, 7);
+    refuses("mov ax bx", 11, 7, 9);
+    refuses("mov [es ax],1", 12, 8, 10);
+    refuses("mov ax,[bx+si 4", 13, 15, 15);
+    refuses("equ (1", 14, 6, 6);
+    refuses("equ 'a", 16, 4, 6);
+    refuses("equ 'ab'", 17, 4, 8);
+    refuses("1", 20, 0, 1);
+    refuses("mov ax,[(]", 24, 8, 9);
+    refuses("db 'a", 26, 3, 5);
+    refuses("mov ax,[es:]", 32, 7, 12);
+    registers = refusal(25, 4, 9);
+    registers.first = 14;
+    registers.second = 11;
+    says(bytes("in [si+bx]"), 10, registers, "in [si+bx]");
     memset(feeds, '\n', sizeof feeds);
     says(feeds, LONGEST, refusal(0, 0, 0), "65,536 line feeds");
     says(feeds, LONGEST + 1, refusal(1, 0, 0), "65,537 line feeds");
@@ -149,12 +177,28 @@ static void statement(const char *source, size_t place, struct laqhoncu_numbers 
     check(said.found == found, "whether a statement was found", source);
     check(said.length == n && memcmp(out, bytes_wanted, n) == 0, "the statement read's records", source);
     check(left(out, n, ROOM), "the statement read wrote beyond its result", source);
-    check(!found || said.ahead == ahead, "the place of the token ahead", source);
+    check(said.ahead == ahead, "the place of the token ahead", source);
     if (n > 0) {
         fill(out, ROOM);
         said = laqhoncu_statement_read(bytes(source), strlen(source), place, out, n - 1);
         check(same_numbers(said.refusal, refusal(4, 0, 0)) && left(out, 0, ROOM), "the statement read in a byte too little", source);
     }
+}
+
+/* Statement reads, each from where the one before has stopped, give the bytes of the full read. */
+static void walk(const char *source) {
+    uint8_t wanted[ROOM], out[ROOM];
+    size_t length = strlen(source), at = 0, n = 0;
+    struct laqhoncu_full_reading all = laqhoncu_full_read(bytes(source), length, wanted, ROOM);
+    struct laqhoncu_statement_reading one = laqhoncu_statement_read(bytes(source), length, at, out, ROOM);
+    check(all.refusal.number == 0, "the full read refuses it", source);
+    while (one.refusal.number == 0 && one.found) {
+        n += one.length;
+        check(one.ahead > at, "a statement read stands still", source);
+        at = one.ahead;
+        one = laqhoncu_statement_read(bytes(source), length, at, out + n, ROOM - n);
+    }
+    check(one.refusal.number == 0 && n == all.length && memcmp(out, wanted, n) == 0, "the statement reads' records", source);
 }
 
 static void statement_reads(void) {
@@ -166,6 +210,7 @@ static void statement_reads(void) {
     statement("a dw 0abh", 2, refusal(30, 5, 8), 0, "", 0);
     statement("a equ *5", 2, refusal(22, 0, 0), 0, "", 0);
     statement("a\x80", 0, refusal(2, 1, 2), 0, "", 0);
+    walk("k equ 2\n\n a: b: ; c\n times 3\n\n rep movsb\n db 1,2 \n jmp 1:2\n;d");
 }
 
 static void token(const char *source, size_t place, uint8_t kind, int32_t value, size_t end) {
@@ -174,6 +219,7 @@ static void token(const char *source, size_t place, uint8_t kind, int32_t value,
     check(found.kind == kind && found.value == value && found.end == end, "the token", source);
     if (kind == 30 || kind == 31) {
         check(same_numbers(said.refusal, refusal(kind, (uint32_t)place, (uint32_t)end)), "the token read's refusal", source);
+        check(said.token.kind == 0 && said.token.value == 0 && said.token.end == 0, "the token of a refusal", source);
     } else {
         check(same_numbers(said.refusal, refusal(0, 0, 0)), "the token read refuses it", source);
         check(said.token.kind == kind && said.token.value == value && said.token.end == end, "the token read", source);
@@ -181,35 +227,44 @@ static void token(const char *source, size_t place, uint8_t kind, int32_t value,
 }
 
 static void token_refused(const char *source, size_t place, struct laqhoncu_numbers wanted) {
-    check(same_numbers(laqhoncu_token_read(bytes(source), strlen(source), place).refusal, wanted), "the token read's refusal", source);
+    struct laqhoncu_token_reading said = laqhoncu_token_read(bytes(source), strlen(source), place);
+    check(same_numbers(said.refusal, wanted), "the token read's refusal", source);
+    check(said.token.kind == 0 && said.token.value == 0 && said.token.end == 0, "the token of a refusal", source);
 }
 
 static void tokens(void) {
-    const char *source = "a1 [0x1F]'c''d\n;e\n!$\r";
+    const char *source = "a1 [0x1F]'c''d\n;e\n!$\r", *punctuation = "]):,$./-[(+*";
     static uint8_t feeds[LONGEST + 1];
-    token(source, 0, 'a', 0, 2);
-    token(source, 2, ' ', 0, 3);
+    struct laqhoncu_token_found found;
+    size_t i;
+    for (i = 0; punctuation[i]; i++) token(punctuation, i, (uint8_t)punctuation[i], 0, i + 1);
+    token(source, 0, LAQHONCU_KIND_IDENTIFIER, 0, 2);
+    token(source, 2, LAQHONCU_KIND_WHITESPACE, 0, 3);
     token(source, 3, '[', 0, 4);
-    token(source, 4, '0', 31, 8);
+    token(source, 4, LAQHONCU_KIND_NUMBER, 31, 8);
     token(source, 8, ']', 0, 9);
-    token(source, 9, '\'', 0, 12);
-    token(source, 12, '"', 0, 14);
-    token(source, 14, '\n', 0, 15);
-    token(source, 15, ';', 0, 17);
-    token(source, 18, '!', '!', 19);
+    token(source, 9, LAQHONCU_KIND_CLOSED_STRING, 0, 12);
+    token(source, 12, LAQHONCU_KIND_UNCLOSED_STRING, 0, 14);
+    token(source, 14, LAQHONCU_KIND_NEW_LINE, 0, 15);
+    token(source, 15, LAQHONCU_KIND_COMMENT, 0, 17);
+    token(source, 18, LAQHONCU_KIND_INVALID, '!', 19);
     token(source, 19, '$', 0, 20);
     token(source, 20, ' ', 0, 21);
-    token(source, 21, 0, 0, 21);
-    token("dw 0abh", 3, 30, 0, 6);
-    token("equ 0x80000000", 4, 31, 0, 14);
-    check(laqhoncu_token(bytes("a"), 1, 7).kind == 0, "the token beyond the end", "a");
+    token(source, 21, LAQHONCU_KIND_END_OF_FILE, 0, 21);
+    token("dw 0abh", 3, LAQHONCU_BINARY_LARGER_DIGIT, 0, 6);
+    token("equ 0x80000000", 4, LAQHONCU_PREFIXED_TOO_LARGE, 0, 14);
+    token("", 0, LAQHONCU_KIND_END_OF_FILE, 0, 0);
+    found = laqhoncu_token(bytes("a"), 1, 7);
+    check(found.kind == LAQHONCU_KIND_END_OF_FILE && found.value == 0 && found.end == 7, "the token beyond the end", "a");
+    found = laqhoncu_token(bytes("\x80"), 1, 0);
+    check(found.kind == LAQHONCU_KIND_INVALID && found.value == 128 && found.end == 1, "the token of a byte above 127", "\x80");
     token_refused("a", 2, refusal(42, 0, 0));
     token_refused("a\x80", 0, refusal(2, 1, 2));
     memset(feeds, '\n', sizeof feeds);
     check(laqhoncu_token_read(feeds, LONGEST + 1, 0).refusal.number == 1, "the token read", "65,537 line feeds");
     check(laqhoncu_token_read(feeds, LONGEST + 1, LONGEST + 2).refusal.number == 42, "42 comes before 1", "65,537 line feeds");
     check(laqhoncu_count(bytes(source), strlen(source)) == 13, "how many tokens", source);
-    check(laqhoncu_count(bytes(""), 0) == 0, "how many tokens", "the empty source");
+    check(laqhoncu_count(bytes("dw 0abh\x80"), 8) == 5, "how many tokens", "dw 0abh and a byte above 127");
     check(laqhoncu_count(feeds, LONGEST) == LONGEST, "how many tokens", "65,536 line feeds");
 }
 
@@ -217,7 +272,7 @@ static void tokens(void) {
 static void value(uint8_t operator_number, int32_t a, int32_t b, uint32_t number, int32_t wanted) {
     struct laqhoncu_valuation said = laqhoncu_evaluate(operator_number, a, b);
     check(same_numbers(said.refusal, refusal(number, 0, 0)), "its refusal", "evaluate");
-    check(number != 0 || said.value == wanted, "its value", "evaluate");
+    check(said.value == wanted, "its value", "evaluate");
 }
 
 static void values(void) {
@@ -236,37 +291,49 @@ static void values(void) {
 
 static void word(const char *text, uint8_t operation, uint16_t name, uint8_t directive) {
     size_t length = strlen(text);
-    uint8_t row[9], numbers[2];
     check(laqhoncu_operation(bytes(text), length) == operation, "its operation", text);
     check(laqhoncu_name(bytes(text), length) == name, "its register, segment or size", text);
     check(laqhoncu_directive(bytes(text), length) == directive, "its directive", text);
-    /* one row, two places for numbers: the second is left as it was */
-    memset(row, 0, sizeof row);
-    row[0] = (uint8_t)length;
-    memcpy(row + 1, text, length);
-    numbers[0] = numbers[1] = 0xA5;
-    laqhoncu_operations(row, 8, numbers, 2);
-    check(numbers[0] == operation && numbers[1] == 0xA5, "its operation, by rows", text);
 }
 
 static void words(void) {
-    word("mov", 0, 65535, 255);
-    word("Jmp", 59, 65535, 255);
-    word("SALC", 98, 65535, 255);
-    word("sal", 255, 65535, 255);
-    word("al", 255, 0, 255);
-    word("BH", 255, 7, 255);
-    word("ax", 255, 8, 255);
-    word("di", 255, 15, 255);
-    word("es", 255, 256, 255);
-    word("DS", 255, 259, 255);
-    word("byte", 255, 512, 255);
-    word("word", 255, 513, 255);
-    word("equ", 255, 65535, 0);
-    word("DB", 255, 65535, 1);
-    word("dw", 255, 65535, 2);
-    word("times", 255, 65535, 3);
-    word("", 255, 65535, 255);
+    word("mov", 0, LAQHONCU_NO_NAME, LAQHONCU_NONE);
+    word("Jmp", 59, LAQHONCU_NO_NAME, LAQHONCU_NONE);
+    word("SALC", 98, LAQHONCU_NO_NAME, LAQHONCU_NONE);
+    word("sal", LAQHONCU_NONE, LAQHONCU_NO_NAME, LAQHONCU_NONE);
+    word("al", LAQHONCU_NONE, 0, LAQHONCU_NONE);
+    word("BH", LAQHONCU_NONE, 7, LAQHONCU_NONE);
+    word("ax", LAQHONCU_NONE, 8, LAQHONCU_NONE);
+    word("di", LAQHONCU_NONE, 15, LAQHONCU_NONE);
+    word("es", LAQHONCU_NONE, LAQHONCU_SEGMENT_BASE, LAQHONCU_NONE);
+    word("DS", LAQHONCU_NONE, LAQHONCU_SEGMENT_BASE + 3, LAQHONCU_NONE);
+    word("byte", LAQHONCU_NONE, LAQHONCU_SIZE_BASE, LAQHONCU_NONE);
+    word("word", LAQHONCU_NONE, LAQHONCU_SIZE_BASE + 1, LAQHONCU_NONE);
+    word("equ", LAQHONCU_NONE, LAQHONCU_NO_NAME, 0);
+    word("DB", LAQHONCU_NONE, LAQHONCU_NO_NAME, 1);
+    word("dw", LAQHONCU_NONE, LAQHONCU_NO_NAME, 2);
+    word("times", LAQHONCU_NONE, LAQHONCU_NO_NAME, 3);
+    word("", LAQHONCU_NONE, LAQHONCU_NO_NAME, LAQHONCU_NONE);
+}
+
+/* What the header's comment says of words: document 01 has 117 spellings of 99 operations and 16 registers. */
+static void spelled(int argc, char **argv) {
+    int i, operations = 0, registers = 0, last = -1;
+    for (i = 1; i + 2 < argc; i += 3) {
+        const char *text = argv[i + 2];
+        int number = atoi(argv[i + 1]);
+        if (strcmp(argv[i], "operation") == 0) {
+            check(laqhoncu_operation(bytes(text), strlen(text)) == number && number < 99, "not the operation that the header says", text);
+            check(number == last || number == last + 1, "the header leaves an operation out", text);
+            last = number;
+            operations++;
+        } else {
+            check(laqhoncu_name(bytes(text), strlen(text)) == number && number == registers, "not the register that the header says", text);
+            registers++;
+        }
+    }
+    check(operations == 117 && last == 98, "the header does not have all operations", "its comment");
+    check(registers == 16, "the header does not have all registers", "its comment");
 }
 
 struct edit {
@@ -338,13 +405,116 @@ static void patches(void) {
     patch_refused(edit("a\nb\n", both, 2, "dw 0abh"), ROOM, ROOM, refusal(30, 5, 8));
 }
 
-int main(void) {
+/* NULL for each pointer, where the length behind it is 0. */
+static void nulls(void) {
+    uint8_t source[ROOM], out[ROOM], lent[ROOM];
+    const uint8_t *old = bytes("a\nb\n"), *text = bytes("c");
+    size_t n = listing("ST 0; LL 0 1; ST 2; LL 2 3", lent);
+    struct laqhoncu_numbers accepted = refusal(0, 0, 0);
+    struct laqhoncu_full_reading full = laqhoncu_full_read(NULL, 0, NULL, 0);
+    struct laqhoncu_statement_reading one = laqhoncu_statement_read(NULL, 0, 0, NULL, 0);
+    struct laqhoncu_token_reading read = laqhoncu_token_read(NULL, 0, 0);
+    struct laqhoncu_token_found found = laqhoncu_token(NULL, 0, 0);
+    struct laqhoncu_patching said = laqhoncu_patch(NULL, 0, NULL, 0, 0, NULL, 0, NULL, 0, NULL, 0);
+    check(same_numbers(full.refusal, accepted) && full.length == 0, "the full read", "NULL");
+    check(same_numbers(one.refusal, accepted) && one.found == 0 && one.length == 0 && one.ahead == 0, "the statement read", "NULL");
+    check(same_numbers(read.refusal, accepted) && read.token.kind == 0 && read.token.value == 0 && read.token.end == 0, "the token read", "NULL");
+    check(found.kind == 0 && found.value == 0 && found.end == 0, "the token", "NULL");
+    check(same_numbers(said.refusal, accepted) && said.source == 0 && said.listing == 0, "the patch", "NULL");
+    check(laqhoncu_count(NULL, 0) == 0, "how many tokens", "NULL");
+    check(laqhoncu_operation(NULL, 0) == LAQHONCU_NONE, "its operation", "NULL");
+    check(laqhoncu_name(NULL, 0) == LAQHONCU_NO_NAME, "its name", "NULL");
+    check(laqhoncu_directive(NULL, 0) == LAQHONCU_NONE, "its directive", "NULL");
+    /* one at a time, beside buffers that are there */
+    fill(source, ROOM);
+    fill(out, ROOM);
+    full = laqhoncu_full_read(NULL, 0, out, ROOM);
+    check(same_numbers(full.refusal, accepted) && full.length == 0 && left(out, 0, ROOM), "the full read", "no source");
+    full = laqhoncu_full_read(old, 4, NULL, 0);
+    check(same_numbers(full.refusal, refusal(4, 0, 0)) && full.length == 0, "the full read", "no room");
+    one = laqhoncu_statement_read(NULL, 0, 0, out, ROOM);
+    check(same_numbers(one.refusal, accepted) && one.found == 0 && left(out, 0, ROOM), "the statement read", "no source");
+    one = laqhoncu_statement_read(old, 4, 0, NULL, 0);
+    check(same_numbers(one.refusal, refusal(4, 0, 0)) && one.found == 0, "the statement read", "no room");
+    check(same_numbers(laqhoncu_token_read(NULL, 0, 1).refusal, refusal(42, 0, 0)), "the token read", "a place in no source");
+    said = laqhoncu_patch(old, 4, lent, n, 0, text, 1, NULL, 0, out, ROOM);
+    check(same_numbers(said.refusal, refusal(6, 0, 0)) && left(out, 0, ROOM), "the patch", "no room for the source");
+    said = laqhoncu_patch(old, 4, lent, n, 0, text, 1, source, ROOM, NULL, 0);
+    check(same_numbers(said.refusal, refusal(4, 0, 0)) && left(source, 0, ROOM), "the patch", "no room for the listing");
+    said = laqhoncu_patch(old, 4, lent, n, 0, NULL, 0, source, ROOM, out, ROOM);
+    check(same_numbers(said.refusal, accepted) && said.source == 3 && memcmp(source, "\nb\n", 3) == 0, "the patch", "no text");
+    check(said.listing == listing("ST 1; LL 1 2", lent) && memcmp(out, lent, said.listing) == 0, "the patch's listing", "no text");
+    said = laqhoncu_patch(NULL, 0, NULL, 0, 0, text, 1, source, ROOM, out, ROOM);
+    check(same_numbers(said.refusal, accepted) && said.source == 1 && source[0] == 'c', "the patch", "no old source");
+    check(said.listing == listing("ST 0; LL 0 1", lent) && memcmp(out, lent, said.listing) == 0, "the patch's listing", "no old source");
+    said = laqhoncu_patch(old, 4, NULL, 0, 4, text, 1, source, ROOM, out, ROOM);
+    check(same_numbers(said.refusal, accepted) && said.source == 5 && memcmp(source, "a\nb\nc", 5) == 0, "the patch", "no listing");
+    check(said.listing == listing("ST 4; LL 4 5", lent) && memcmp(out, lent, said.listing) == 0, "the patch's listing", "no listing");
+}
+
+/* The header's names have document 01's numbers, and each was met above, and no other. */
+static void named(void) {
+    static const int names[][2] = {
+        {LAQHONCU_ACCEPTED, 0},
+        {LAQHONCU_SOURCE_TOO_LONG, 1},
+        {LAQHONCU_NOT_ASCII, 2},
+        {LAQHONCU_EXPRESSION_TOO_DEEP, 3},
+        {LAQHONCU_LISTING_NO_ROOM, 4},
+        {LAQHONCU_TIMES_TOO_DEEP, 5},
+        {LAQHONCU_SOURCE_NO_ROOM, 6},
+        {LAQHONCU_LINE_END_EXPECTED, 10},
+        {LAQHONCU_COMMA_EXPECTED, 11},
+        {LAQHONCU_COLON_EXPECTED, 12},
+        {LAQHONCU_CLOSE_BRACKET_EXPECTED, 13},
+        {LAQHONCU_CLOSE_PARENTHESIS_EXPECTED, 14},
+        {LAQHONCU_LITERAL_EXPECTED, 15},
+        {LAQHONCU_CLOSED_STRING_EXPECTED, 16},
+        {LAQHONCU_ONE_CHARACTER_EXPECTED, 17},
+        {LAQHONCU_INSTRUCTION_EXPECTED, 20},
+        {LAQHONCU_OPERAND_EXPECTED, 21},
+        {LAQHONCU_INVALID_PREFIX_OPERATOR, 22},
+        {LAQHONCU_DATA_DEFINITION_WITHOUT_DATA, 23},
+        {LAQHONCU_SEGMENT_OR_ADDRESS_EXPECTED, 24},
+        {LAQHONCU_INVALID_INDIRECT_ENCODING, 25},
+        {LAQHONCU_UNTERMINATED_STRING_LITERAL, 26},
+        {LAQHONCU_BINARY_LARGER_DIGIT, 30},
+        {LAQHONCU_PREFIXED_TOO_LARGE, 31},
+        {LAQHONCU_NOTHING_AFTER_OVERRIDE, 32},
+        {LAQHONCU_TWO_INDEX_REGISTERS, 33},
+        {LAQHONCU_TIMES_WITHOUT_CONTENT, 34},
+        {LAQHONCU_TIMES_LEFT_OPEN, 40},
+        {LAQHONCU_LISTING_NOT_WELL_FORMED, 41},
+        {LAQHONCU_NO_SUCH_PLACE, 42},
+        {LAQHONCU_LINE_FEED_IN_TEXT, 43},
+        {LAQHONCU_BEYOND_32_BITS, 50},
+        {LAQHONCU_ZERO_DIVISOR, 51},
+        {LAQHONCU_NO_SUCH_OPERATOR, 255},
+    };
+    char version[32];
+    size_t i;
+    int others = 0;
+    for (i = 0; i < sizeof names / sizeof names[0]; i++) {
+        check(names[i][0] == names[i][1], "a refusal's number in the header", "its names");
+        check(met[names[i][1]], "a refusal that no call has given", "its names");
+        met[names[i][1]] = 0;
+    }
+    for (i = 0; i < 256; i++) others += met[i];
+    check(others == 0, "a refusal that the header does not name", "its names");
+    check(LAQHONCU_SOURCE_MAX == 65536 && LAQHONCU_LISTING_FACTOR == 18, "the limits of document 01", "its limits");
+    sprintf(version, "%d.%d.%d", LAQHONCU_VERSION_MAJOR, LAQHONCU_VERSION_MINOR, LAQHONCU_VERSION_PATCH);
+    check(strcmp(version, LAQHONCU_VERSION) == 0, "the parts of the version", version);
+}
+
+int main(int argc, char **argv) {
     full_reads();
     statement_reads();
     tokens();
     values();
     words();
+    spelled(argc, argv);
     patches();
+    nulls();
+    named();
     printf("%lu\n", checks);
     return 0;
 }

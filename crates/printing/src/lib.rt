@@ -1,5 +1,5 @@
 // What the program `listing` prints: a listing's records as lines, or a refusal.
-pub mod text;
+mod text;
 
 use reader::FullAnswer;
 use reader::full_read;
@@ -210,7 +210,7 @@ fn put_end(out: &mut [u8], at: usize, count: u64) -> usize
 }
 
 // The text of a listing in `out`, and its length: a line for each record that the bytes begin with, then `END` and their count.
-pub fn listing_text(listing: &[u8], out: &mut [u8]) -> usize
+fn listing_text(listing: &[u8], out: &mut [u8]) -> usize
     ensures { λ r. ⌜ Holds (textOf (recordsIn 0 (now (listing .entry)))) (now (out .entry)) (now (out .exit)) r ⌝ }
     ensures { λ _. ⌜ length (textOf (recordsIn 0 (now (listing .entry)))) ≤ 6 * length (now (listing .entry)) + 25 ⌝ }
 {
@@ -229,14 +229,7 @@ pub fn listing_text(listing: &[u8], out: &mut [u8]) -> usize
 }
 
 // The text of a refusal in `out`, and its length.
-pub fn refusal_text(
-    number: u32,
-    from: u32,
-    to: u32,
-    first: u32,
-    second: u32,
-    out: &mut [u8],
-) -> usize
+fn refusal_text(number: u32, from: u32, to: u32, first: u32, second: u32, out: &mut [u8]) -> usize
     ensures { λ r. ⌜ Holds (refusalText number from to first second) (now (out .entry)) (now (out .exit)) r ⌝ }
 {
     let at = put_all(out, 0, b"REF");

@@ -24,7 +24,7 @@ pub fn put_all(out: &mut [u8], at: usize, text: &[u8]) -> usize
     to
 }
 
-pub fn put_decimal(out: &mut [u8], at: usize, n: u64) -> usize
+fn put_decimal(out: &mut [u8], at: usize, n: u64) -> usize
     ensures { λ r. ⌜ Wrote at (decimal n) (now (out .entry)) (now (out .exit)) r ⌝ }
 {
     let mut digits = [0u8; 20];

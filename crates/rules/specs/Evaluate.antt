@@ -12,7 +12,7 @@ unfoldable pub signed32 : ℤ → Result ℤ
 signed32 z = if ltb (mag z) 2147483648 then (gives z) else (refuses (nowhere 50))
 
 -- An operator, by its number, on two numbers; 51: zero divisor. The number is 0 to 3: an Operator has no other (`parser`: OperatorsFour), and
--- the exported call answers any other with 255 before this is asked (`exports`: valuation).
+-- the exported call answers any other with 255 before this is asked (`laqhoncu`: valuation).
 unfoldable pub evaluate : ℕ → ℤ → ℤ → Result ℤ
 evaluate op a b =
     if eqb op 0 then (signed32 (a +ℤ b))

@@ -1,5 +1,0 @@
-pub mod Lines
-pub mod Said
-pub mod Outcomes
-pub mod Short
-pub mod Rooms

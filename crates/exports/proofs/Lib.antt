@@ -1,4 +1,0 @@
-pub mod Signed
-pub mod LookedUp
-pub mod Counting
-pub mod Writing
