@@ -110,11 +110,9 @@ fn refusal_of(error: &ParserError) -> Refusal {
         ParserError::InvalidPrefixOperator(..) => at(22),
         ParserError::DataDefinitionWithoutData(..) => at(23),
         ParserError::SegmentOrAddressExpected(..) => at(24),
-        ParserError::InvalidIndirectEncoding(_, first, second) => Refusal {
-            first: number_of_register(first),
-            second: second.as_ref().map_or(255, number_of_register),
-            ..at(25)
-        },
+        ParserError::InvalidIndirectEncoding(_, first, second) => {
+            Refusal { first: number_of_register(first), second: second.as_ref().map_or(255, number_of_register), ..at(25) }
+        }
         ParserError::UnterminatedStringLiteral(..) => at(26),
         ParserError::SecondOperandExpected(..) => panic!("an error that the original never gives"),
     }

@@ -102,14 +102,7 @@ pub fn full_read(source: &[u8], out: &mut [u8]) -> Result<usize, Refusal> {
 /// The line that begins at `place` of a source exchanged for a text: the edited source and its listing, written from the first byte
 /// of their buffers on; their lengths. `listing` is the old source's.
 #[inline]
-pub fn patch(
-    old: &[u8],
-    listing: &[u8],
-    place: usize,
-    text: &[u8],
-    source: &mut [u8],
-    out: &mut [u8],
-) -> Result<(usize, usize), Refusal> {
+pub fn patch(old: &[u8], listing: &[u8], place: usize, text: &[u8], source: &mut [u8], out: &mut [u8]) -> Result<(usize, usize), Refusal> {
     let said = unsafe {
         laqhoncu_patch(
             old.as_ptr(),

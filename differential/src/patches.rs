@@ -351,11 +351,7 @@ pub fn compare(count: u64, mut ours: impl Patch) -> Count {
         for (source_room, listing_room) in rooms {
             let expected = expected(call, source_room, listing_room);
             let said = called(&mut ours, call, source_room, listing_room);
-            assert!(
-                said == expected,
-                "{}\nlent {source_room} and {listing_room} bytes\nexpected {expected:?}\nsaid {said:?}",
-                shown(call)
-            );
+            assert!(said == expected, "{}\nlent {source_room} and {listing_room} bytes\nexpected {expected:?}\nsaid {said:?}", shown(call));
         }
     });
     compared
@@ -369,11 +365,7 @@ fn line_starts(source: &[u8]) -> Vec<usize> {
 /// Demand 3, with no oracle between: on accepted sources, each of their lines and random texts, some with a byte above 127 or as long as a
 /// source may be, the patch answers as the full read of the edited source does, lent as many bytes for the listing; or it is refused with
 /// 40, and then a line of the proviso leaves a `times` open. Gives the calls, how many of them were accepted, refused as the full read, and refused with 40.
-pub fn as_full_read(
-    count: u64,
-    mut ours: impl Patch,
-    mut full_read: impl FnMut(&[u8], &mut [u8]) -> Result<usize, Refusal>,
-) -> [u64; 4] {
+pub fn as_full_read(count: u64, mut ours: impl Patch, mut full_read: impl FnMut(&[u8], &mut [u8]) -> Result<usize, Refusal>) -> [u64; 4] {
     let (mut random, mut met) = (Random::new(7), [0; 4]);
     while met[0] < count {
         let mut source = Vec::new();
@@ -435,7 +427,16 @@ fn open_beside(call: &Call, end: usize) -> bool {
 pub fn damaged(mut ours: impl Patch) -> (u64, u64) {
     let (mut compared, mut refused) = (0, 0);
     let source = b"k equ -1+2*3\nstart: mov ax,[bx+4]\nes: jmp 1:2\n times 2 times $$-$ db 'ab',3\nmov byte [ds:k],al\nw dw 1, 2\nrep\n";
-    let pieces = ["k equ -1+2*3\n", "mov ax,[bx+4]\n", "jmp 1:2\n", "times 2 times $$-$ db 'ab',3\n", "mov word [ds:k],bx\n", "w dw 1, 2\n", "rep\n", "in al,dx\nmov es,ax\n"];
+    let pieces = [
+        "k equ -1+2*3\n",
+        "mov ax,[bx+4]\n",
+        "jmp 1:2\n",
+        "times 2 times $$-$ db 'ab',3\n",
+        "mov word [ds:k],bx\n",
+        "w dw 1, 2\n",
+        "rep\n",
+        "in al,dx\nmov es,ax\n",
+    ];
     let mut list = vec![pieces.concat().into_bytes(), source.to_vec()];
     list.extend(pieces.iter().map(|piece| piece.as_bytes().to_vec()));
     for source in list {

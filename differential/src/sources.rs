@@ -75,11 +75,11 @@ pub fn each(pieces: &[&[u8]], most: usize, f: &mut impl FnMut(&[u8])) {
 }
 
 /// Bytes at which the lexer decides: every class, every prefix and suffix, the digits at the edges of the bases.
-pub const TELLING_BYTES: [&[u8]; 20] = [
-    b"0", b"1", b"7", b"8", b"b", b"B", b"d", b"o", b"O", b"x", b"h", b"f", b"g", b"_", b" ", b"\n", b"'", b";", b"$", b"\0",
-];
+pub const TELLING_BYTES: [&[u8]; 20] =
+    [b"0", b"1", b"7", b"8", b"b", b"B", b"d", b"o", b"O", b"x", b"h", b"f", b"g", b"_", b" ", b"\n", b"'", b";", b"$", b"\0"];
 
 /// Pieces at which the parser decides.
+#[rustfmt::skip]
 pub const TELLING_PIECES: [&[u8]; 37] = [
     b"mov ", b"rep ", b"equ ", b"db ", b"dw ", b"times ", b"a", b"a ", b"ax", b"bx", b"si", b"es", b"byte ", b"[", b"]", b"(",
     b")", b"+", b"-", b"*", b":", b",", b"$", b"1", b"0abh", b"0x80000000", b"'c'", b"'cd'", b"'", b"'' ", b" ", b"\n", b";",
@@ -87,16 +87,14 @@ pub const TELLING_PIECES: [&[u8]; 37] = [
 ];
 
 /// Fewer pieces, for longer rows.
-pub const OPERAND_PIECES: [&[u8]; 14] =
-    [b"[", b"]", b"es", b":", b"bx", b"si", b"+", b"-", b"1", b"a", b" ", b"byte ", b",", b"("];
+pub const OPERAND_PIECES: [&[u8]; 14] = [b"[", b"]", b"es", b":", b"bx", b"si", b"+", b"-", b"1", b"a", b" ", b"byte ", b",", b"("];
 
 const OPERATIONS: [&str; 16] =
     ["mov", "add", "jmp", "Call", "in", "NOP", "rep", "repne", "repnz", "ssb", "int3", "lea", "loopne", "test", "xlatb", "SALC"];
-const REGISTERS: [&str; 16] =
-    ["al", "CL", "dl", "bl", "ah", "ch", "dh", "bh", "ax", "cx", "Dx", "bx", "sp", "bp", "si", "di"];
+const REGISTERS: [&str; 16] = ["al", "CL", "dl", "bl", "ah", "ch", "dh", "bh", "ax", "cx", "Dx", "bx", "sp", "bp", "si", "di"];
 const SEGMENTS: [&str; 4] = ["es", "CS", "ss", "ds"];
-const NAMES: [&str; 14] =
-    ["a", "w12", "_x", "start", "sal", "xlat", "repe", "movs", "times1", "bytes", "equ", "byte", "h", "times"];
+const NAMES: [&str; 14] = ["a", "w12", "_x", "start", "sal", "xlat", "repe", "movs", "times1", "bytes", "equ", "byte", "h", "times"];
+#[rustfmt::skip]
 const NUMBERS: [&str; 26] = [
     "0", "1", "10", "255", "256", "65535", "65536", "70000", "2147483647", "2147483648", "0x1F", "0x7fffffff", "0x80000000",
     "0b101", "0o17", "0d9", "101b", "17o", "12h", "0FFh", "0abh", "10bh", "99999999999", "12a", "0B", "0x",
@@ -279,6 +277,7 @@ pub const REFUSED: [&str; 4] = ["0abh", "2b", "0x80000000", "0d2147483648"];
 
 /// Beginnings of a line that end right where a refusal is due or has just been missed: each cause, and lines that are whole.
 pub fn causes() -> Vec<String> {
+    #[rustfmt::skip]
     let mut list: Vec<String> = [
         // whole statements, and statements that go on
         "", "a", "a:", "nop", "rep", "mov ax,bx", "mov ax,1", "mov ax,[1]", "db 1", "db 'a',", "equ 1", "equ $", "equ $$",

@@ -158,8 +158,7 @@ fn number_like(random: &mut Random) -> Vec<u8> {
 
 /// Numbers at the edges: 2147483647 and its neighbours in each base, spelled in each way, with zeros before and things behind.
 pub fn numbers(f: &mut impl FnMut(&str)) {
-    let edges: [u64; 16] =
-        [0, 1, 2, 7, 8, 9, 10, 15, 16, 255, 2147483646, 2147483647, 2147483648, 2147483649, 4294967295, 4294967296];
+    let edges: [u64; 16] = [0, 1, 2, 7, 8, 9, 10, 15, 16, 255, 2147483646, 2147483647, 2147483648, 2147483649, 4294967295, 4294967296];
     for value in edges.into_iter().chain([u64::MAX, 1 << 62, 21474836470, 0x7fffffff0]) {
         let spelled = [format!("{value:b}"), format!("{value:o}"), format!("{value}"), format!("{value:x}"), format!("{value:X}")];
         for digits in spelled {

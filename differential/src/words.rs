@@ -38,8 +38,8 @@ pub fn spellings() -> Vec<&'static str> {
 
 /// The other words that mean something.
 pub const OTHERS: [&str; 26] = [
-    "al", "cl", "dl", "bl", "ah", "ch", "dh", "bh", "ax", "cx", "dx", "bx", "sp", "bp", "si", "di", "es", "cs", "ss", "ds", "byte",
-    "word", "equ", "db", "dw", "times",
+    "al", "cl", "dl", "bl", "ah", "ch", "dh", "bh", "ax", "cx", "dx", "bx", "sp", "bp", "si", "di", "es", "cs", "ss", "ds", "byte", "word",
+    "equ", "db", "dw", "times",
 ];
 
 /// What a word names, as ours says it.
@@ -68,8 +68,7 @@ impl<F: Lookup> Compare<F> {
 
     /// Every word up to `most` letters and digits; every spelling in every mixture of case; every one-letter change of each.
     pub fn all(&mut self, most: usize) {
-        let letters: Vec<[u8; 1]> =
-            b"abcdefghijklmnopqrstuvwxyzABCDEFGHIJKLMNOPQRSTUVWXYZ0123456789_".iter().map(|b| [*b]).collect();
+        let letters: Vec<[u8; 1]> = b"abcdefghijklmnopqrstuvwxyzABCDEFGHIJKLMNOPQRSTUVWXYZ0123456789_".iter().map(|b| [*b]).collect();
         let letters: Vec<&[u8]> = letters.iter().map(|b| b.as_slice()).collect();
         crate::sources::each(&letters, most, &mut |word| self.word(word));
         for spelling in spellings().into_iter().chain(OTHERS) {

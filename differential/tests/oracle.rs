@@ -140,9 +140,7 @@ fn differences_from_the_original() {
     read_whole(&format!("equ {}1{}", "(".repeat(100), ")".repeat(100)));
     read_whole(&format!("{}a", "times 1 ".repeat(100)));
     // 30 to 34 stand for its panics, and for nothing else.
-    for (number, source) in
-        [(30, "dw 0abh"), (31, "equ 0x80000000"), (32, "mov ax,[es:]"), (33, "mov ax,[si+di]"), (34, "times 2")]
-    {
+    for (number, source) in [(30, "dw 0abh"), (31, "equ 0x80000000"), (32, "mov ax,[es:]"), (33, "mov ax,[si+di]"), (34, "times 2")] {
         assert!(original::caught(|| Parser::new(source).parse_line().is_ok()).is_err(), "{source:?} is no panic");
         assert_eq!(original::read(source.as_bytes()).unwrap_err().number, number, "{source:?}");
     }
@@ -153,12 +151,11 @@ fn differences_from_the_original() {
 /// The same of `evaluate`: 50 and 51.
 #[test]
 fn evaluate_of_the_original() {
-    let said = |operator: Operator, left: i32, right: i32| original::caught(|| black_box(operator).evaluate(black_box(left), black_box(right)));
-    for (operator, left, right, wrapped) in [
-        (Operator::Add, i32::MAX, 1, i32::MIN),
-        (Operator::Subtract, i32::MIN, 1, i32::MAX),
-        (Operator::Multiply, 65536, 65536, 0),
-    ] {
+    let said =
+        |operator: Operator, left: i32, right: i32| original::caught(|| black_box(operator).evaluate(black_box(left), black_box(right)));
+    for (operator, left, right, wrapped) in
+        [(Operator::Add, i32::MAX, 1, i32::MIN), (Operator::Subtract, i32::MIN, 1, i32::MAX), (Operator::Multiply, 65536, 65536, 0)]
+    {
         let said = said(operator, left, right);
         // Rust's arithmetic overflows with a panic in a debug build, and wraps in a release build.
         if cfg!(debug_assertions) {

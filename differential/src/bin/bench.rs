@@ -65,20 +65,13 @@ fn main() {
                 DataSize::from_str(word).map_or(255, |size| size as u8)
             }
         };
-        let (ours_operation, original_operation) = in_turn(
-            rounds,
-            || each(&words, |word| ours::operation(word.as_bytes())),
-            || each(&words, Operation::from_str),
-        );
+        let (ours_operation, original_operation) =
+            in_turn(rounds, || each(&words, |word| ours::operation(word.as_bytes())), || each(&words, Operation::from_str));
         let rows: Vec<[u8; 8]> = words.iter().map(|word| ours::row(word.as_bytes())).collect();
         let mut numbers = vec![0; rows.len()];
         let (ours_batch, _) = in_turn(rounds, || ours::operations(black_box(&rows), &mut numbers), || {});
         assert!(words.iter().zip(&numbers).all(|(word, number)| ours::operation(word.as_bytes()) == *number));
-        let (ours_name, original_name) = in_turn(
-            rounds,
-            || each(&words, |word| ours::name(word.as_bytes())),
-            || each(&words, name),
-        );
+        let (ours_name, original_name) = in_turn(rounds, || each(&words, |word| ours::name(word.as_bytes())), || each(&words, name));
         println!("  names: {} words", words.len());
         for (who, time) in [
             ("ours, operations of all words", ours_batch),
