@@ -14,15 +14,14 @@ fn main() {
         // The repository's root is two folders up, the prefix three.
         None => vec![here.join("../../target/staticlib"), here.join("../../../lib")],
     };
-    for folder in &folders {
-        println!("cargo::rerun-if-changed={}", folder.join(ARCHIVE).display());
-    }
     let Some(folder) = folders.iter().find(|folder| folder.join(ARCHIVE).is_file()) else {
         let looked: Vec<String> = folders.iter().map(|folder| folder.display().to_string()).collect();
         println!("cargo::error={ARCHIVE} is not in {}", looked.join(", nor in "));
         println!("cargo::error=run `rt staticlib laqhoncu` in the repository, or let LAQHONCU_LIBRARY name the folder that has it");
         exit(1);
     };
+    // This one alone: cargo takes a file that is not there for a changed one, and would build everything anew each time.
+    println!("cargo::rerun-if-changed={}", folder.join(ARCHIVE).display());
     println!("cargo::rustc-link-search=native={}", folder.display());
     println!("cargo::rustc-link-lib=static=laqhoncu");
 }

@@ -1,25 +1,27 @@
-//! What a full read answers, and listings as lines of text for messages.
-
-#[derive(Clone, Copy, Debug, PartialEq, Eq)]
-pub struct Refusal {
-    pub number: u8,
-    pub from: usize,
-    pub to: usize,
-    pub first: u8,
-    pub second: u8,
-}
-
-impl Refusal {
-    /// A refusal without registers.
-    pub fn at(number: u8, from: usize, to: usize) -> Self {
-        Self { number, from, to, first: 255, second: 255 }
-    }
-}
+//! What the calls answer, and listings as lines of text.
+use laqhoncu::{records, Directive, Name, NoRecord, Refusal, Register, Span};
 
 /// The bytes of the listing, or why there is none.
 pub type Answer = Result<Vec<u8>, Refusal>;
 
-/// A listing that is being written; spans are moved by `base`.
+/// The refusal of a part of a source that begins at a place, as one of the whole. 22 has no place.
+pub fn moved(refusal: Refusal, place: usize) -> Refusal {
+    let Span { from, to } = refusal.span;
+    match refusal.number {
+        22 => refusal,
+        _ => Refusal { span: Span { from: from + place, to: to + place }, ..refusal },
+    }
+}
+
+/// What a word names.
+#[derive(Clone, Copy, Debug, Default, PartialEq, Eq)]
+pub struct Named {
+    pub operation: Option<u8>,
+    pub name: Option<Name>,
+    pub directive: Option<Directive>,
+}
+
+/// A listing that is being written, with nothing of the library or the package; spans are moved by `base`.
 pub struct Listing {
     pub bytes: Vec<u8>,
     pub base: usize,
@@ -39,43 +41,17 @@ impl Listing {
     }
 }
 
-/// How many fields follow a mark.
-pub fn fields_of(mark: &[u8]) -> Option<usize> {
-    Some(match mark {
-        b"ST" => 1,
-        b"VL" | b"VI" | b"VS" | b"OI" | b"OF" | b"LL" | b"LC" | b"LT" => 2,
-        b"VC" | b"PF" | b"IN" | b"OR" | b"OS" | b"LD" => 3,
-        b"OD" => 4,
-        b"OX" | b"LI" => 6,
-        _ => return None,
-    })
-}
-
 /// A listing as the program `listing` prints it; what is no listing ends in its rest, in hexadecimal.
 pub fn lines(listing: &[u8]) -> String {
-    let (mut text, mut at, mut count) = (String::new(), 0, 0);
-    let field = |at: usize| listing.get(at..at + 4).map(|b| u32::from_le_bytes(b.try_into().unwrap()));
-    'records: while at < listing.len() {
-        let Some(n) = listing.get(at..at + 2).and_then(fields_of) else { break };
-        let mark = std::str::from_utf8(&listing[at..at + 2]).unwrap();
-        let mut line = mark.to_string();
-        for i in 0..n {
-            let Some(f) = field(at + 2 + 4 * i) else { break 'records };
-            line += &if mark == "VC" && i == 2 { format!(" {}", f as i32) } else { format!(" {f}") };
+    let (mut text, mut count) = (String::new(), 0);
+    for record in records(listing) {
+        match record {
+            Ok(record) => {
+                text += &format!("{record}\n");
+                count += 1;
+            }
+            Err(NoRecord { place }) => text += &format!("?? {:02x?}\n", &listing[place..]),
         }
-        let mut end = at + 2 + 4 * n;
-        if mark == "LD" {
-            let count = field(at + 10).unwrap() as usize;
-            let Some(bytes) = listing.get(end..end.saturating_add(count)) else { break };
-            bytes.iter().for_each(|b| line += &format!(" {b}"));
-            end += count;
-        }
-        text += &line;
-        text += "\n";
-        (at, count) = (end, count + 1);
-    }
-    if at < listing.len() {
-        text += &format!("?? {:02x?}\n", &listing[at..]);
     }
     text + &format!("END {count}\n")
 }
@@ -84,6 +60,10 @@ pub fn lines(listing: &[u8]) -> String {
 pub fn shown(answer: &Answer) -> String {
     match answer {
         Ok(listing) => lines(listing),
-        Err(r) => format!("REF {} {} {} {} {}\n", r.number, r.from, r.to, r.first, r.second),
+        Err(refusal) => {
+            let register = |register: Option<Register>| register.map_or(255, Register::number);
+            let Refusal { number, span, first, second } = *refusal;
+            format!("REF {number} {} {} {} {}\n", span.from, span.to, register(first), register(second))
+        }
     }
 }

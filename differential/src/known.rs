@@ -1,6 +1,7 @@
 //! Patches whose answers document 01 settles in its own words; no oracle is asked.
-use crate::answer::{lines, Listing, Refusal};
+use crate::answer::{lines, Listing};
 use crate::patched::{called, shown, Call, Patch, Patched};
+use laqhoncu::Refusal;
 
 pub struct Known {
     pub source: Vec<u8>,

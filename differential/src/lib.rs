@@ -1,15 +1,12 @@
 //! The original Rust and the proved library, side by side.
 
 pub mod answer;
-pub mod found;
 pub mod known;
 pub mod lent;
 #[cfg(original)]
 pub mod limits;
 #[cfg(original)]
 pub mod original;
-#[cfg(library)]
-pub mod ours;
 pub mod patched;
 #[cfg(original)]
 pub mod patches;

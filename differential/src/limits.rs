@@ -1,7 +1,8 @@
 //! The two limits that the original doesn't have: expression depth 33 (3) and the 17th nested `times` (5). A walk through the
 //! tokens says which refusal comes first; with the limits far away it must give the original's number (tests/oracle.rs).
-use crate::answer::{Answer, Refusal};
+use crate::answer::{moved, Answer};
 use crate::original::{self, kind_of, Placed};
+use laqhoncu::{Refusal, TokenKind};
 use mrc_compiler::ast::{DataSize, Register, Segment, WordRegister};
 use mrc_compiler::operations::Operation;
 use std::str::FromStr;
@@ -47,7 +48,7 @@ pub fn read_statement(source: &[u8], place: usize) -> Result<Option<(Vec<u8>, us
     };
     let mut walk = Walk::new(rest, DEPTH, NESTING);
     match walk.go(0).and_then(|()| walk.statement(NESTING)) {
-        Err(met) if matches!(met.number, 3 | 5) => Err(Refusal { from: met.from + place, to: met.to + place, ..met }),
+        Err(met) if matches!(met.number, 3 | 5) => Err(moved(met, place)),
         Err(met) => {
             assert_eq!(Some(met.number), said.as_ref().err().map(|r| r.number), "{rest:?}");
             said.map(|_| unreachable!())
@@ -82,8 +83,12 @@ impl<'a> Walk<'a> {
         self.seen.get(self.at).map_or(self.source.len(), |placed| placed.from)
     }
 
-    fn kind(&self) -> u8 {
-        self.seen.get(self.at).map_or(0, |placed| kind_of(&placed.token).0)
+    fn kind(&self) -> TokenKind {
+        self.seen.get(self.at).map_or(TokenKind::EndOfFile, |placed| kind_of(&placed.token))
+    }
+
+    fn at_punctuation(&self, byte: u8) -> bool {
+        self.kind() == TokenKind::Punctuation(byte)
     }
 
     fn text(&self) -> &'a str {
@@ -116,12 +121,12 @@ impl<'a> Walk<'a> {
     }
 
     fn statement(&mut self, nesting: usize) -> Step<bool> {
-        while self.kind() == b'\n' {
+        while self.kind() == TokenKind::NewLine {
             self.next()?;
         }
         match self.kind() {
-            0 => return Ok(false),
-            b'a' => {}
+            TokenKind::EndOfFile => return Ok(false),
+            TokenKind::Identifier => {}
             _ => return self.refuse(20),
         }
         if let Ok(operation) = Operation::from_str(self.text()) {
@@ -151,7 +156,7 @@ impl<'a> Walk<'a> {
             }
             _ => {
                 self.next()?;
-                if self.kind() == b':' {
+                if self.at_punctuation(b':') {
                     self.next()?;
                 }
             }
@@ -160,13 +165,13 @@ impl<'a> Walk<'a> {
     }
 
     fn at_line_end(&self) -> bool {
-        matches!(self.kind(), 0 | b'\n')
+        matches!(self.kind(), TokenKind::EndOfFile | TokenKind::NewLine)
     }
 
     fn line_end(&mut self) -> Step {
         match self.kind() {
-            0 => Ok(()),
-            b'\n' => self.next(),
+            TokenKind::EndOfFile => Ok(()),
+            TokenKind::NewLine => self.next(),
             _ => self.refuse(10),
         }
     }
@@ -176,11 +181,11 @@ impl<'a> Walk<'a> {
         self.next()?;
         loop {
             match self.kind() {
-                0 | b'\n' => break,
-                b',' => {}
-                b'"' => return self.refuse(26),
-                b'\'' => bytes += self.text().len() - 2,
-                b'0' => bytes += 1,
+                TokenKind::EndOfFile | TokenKind::NewLine => break,
+                TokenKind::Punctuation(b',') => {}
+                TokenKind::Text { closed: false } => return self.refuse(26),
+                TokenKind::Text { closed: true } => bytes += self.text().len() - 2,
+                TokenKind::Number(_) => bytes += 1,
                 _ => return self.refuse(15),
             }
             self.next()?;
@@ -200,7 +205,7 @@ impl<'a> Walk<'a> {
         if self.at_line_end() {
             return Ok(());
         }
-        if self.kind() != b',' {
+        if !self.at_punctuation(b',') {
             return self.refuse(11);
         }
         self.next()?;
@@ -211,14 +216,14 @@ impl<'a> Walk<'a> {
         while DataSize::from_str(self.text()).is_ok() {
             self.next()?;
         }
-        if self.kind() == b'[' {
+        if self.at_punctuation(b'[') {
             return self.memory();
         }
         if Register::from_str(self.text()).is_ok() || Segment::from_str(self.text()).is_ok() {
             return self.next();
         }
         self.expression(self.depth, 0)?;
-        if self.kind() == b':' {
+        if self.at_punctuation(b':') {
             self.next()?;
             self.expression(self.depth, 0)?;
         }
@@ -233,10 +238,10 @@ impl<'a> Walk<'a> {
         self.next()?;
         let (mut registers, mut displacement) = (0, false);
         match self.kind() {
-            b'a' => {
+            TokenKind::Identifier => {
                 if Segment::from_str(self.text()).is_ok() {
                     self.next()?;
-                    if self.kind() != b':' {
+                    if !self.at_punctuation(b':') {
                         return self.refuse(12);
                     }
                     self.next()?;
@@ -248,7 +253,7 @@ impl<'a> Walk<'a> {
                     }
                     self.next()?;
                     registers = 1;
-                    if self.kind() == b'+' {
+                    if self.at_punctuation(b'+') {
                         let plus = self.at;
                         self.next()?;
                         match self.register() {
@@ -263,18 +268,18 @@ impl<'a> Walk<'a> {
                         }
                     }
                 }
-                if self.kind() != b']' {
+                if !self.at_punctuation(b']') {
                     self.expression(self.depth, 0)?;
                     displacement = true;
                 }
             }
-            b'0' => {
+            TokenKind::Number(_) => {
                 self.expression(self.depth, 0)?;
                 displacement = true;
             }
             _ => return self.refuse(24),
         }
-        if self.kind() != b']' {
+        if !self.at_punctuation(b']') {
             return self.refuse(13);
         }
         self.next()?;
@@ -290,15 +295,15 @@ impl<'a> Walk<'a> {
             return self.refuse(3);
         }
         match self.kind() {
-            b'(' => {
+            TokenKind::Punctuation(b'(') => {
                 self.next()?;
                 self.expression(left - 1, 0)?;
-                if self.kind() != b')' {
+                if !self.at_punctuation(b')') {
                     return self.refuse(14);
                 }
                 self.next()?;
             }
-            sign @ (b'+' | b'-' | b'*' | b'/') => {
+            TokenKind::Punctuation(sign @ (b'+' | b'-' | b'*' | b'/')) => {
                 self.next()?;
                 if let b'*' | b'/' = sign {
                     return self.refuse(22);
@@ -309,8 +314,8 @@ impl<'a> Walk<'a> {
         }
         loop {
             let level = match self.kind() {
-                b'+' | b'-' => 1,
-                b'*' | b'/' => 2,
+                TokenKind::Punctuation(b'+' | b'-') => 1,
+                TokenKind::Punctuation(b'*' | b'/') => 2,
                 _ => return Ok(()),
             };
             if level < least {
@@ -323,13 +328,13 @@ impl<'a> Walk<'a> {
 
     fn atom(&mut self) -> Step {
         match self.kind() {
-            b'0' | b'a' => self.next(),
-            b'"' => self.refuse(16),
-            b'\'' if self.text().len() != 3 => self.refuse(17),
-            b'\'' => self.next(),
-            b'$' => {
+            TokenKind::Number(_) | TokenKind::Identifier => self.next(),
+            TokenKind::Text { closed: false } => self.refuse(16),
+            TokenKind::Text { closed: true } if self.text().len() != 3 => self.refuse(17),
+            TokenKind::Text { closed: true } => self.next(),
+            TokenKind::Punctuation(b'$') => {
                 self.next()?;
-                if self.kind() == b'$' {
+                if self.at_punctuation(b'$') {
                     self.next()?;
                 }
                 Ok(())

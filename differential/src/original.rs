@@ -1,8 +1,8 @@
 //! What the original says of a source, in the form of our answers: its trees as a listing, its errors as refusals, its panics
 //! as 30 to 34. The limits 3 and 5 are not the original's: see `limits`.
-use crate::answer::{Answer, Listing, Refusal};
-use crate::found::Found;
-use mrc_compiler::ast::{self, Expression, Line, Operand, Operands, Register, Value};
+use crate::answer::{moved, Answer, Listing};
+use laqhoncu::{Refusal, Register, Segment, Size, Span, TokenKind};
+use mrc_compiler::ast::{self, ByteRegister, DataSize, Expression, Line, Operand, Operands, Value, WordRegister};
 use mrc_compiler::lexer::{Cursor, LiteralKind, PunctuationKind, Token};
 use mrc_compiler::parser::{Parser, ParserError};
 use std::cell::Cell;
@@ -83,10 +83,50 @@ pub fn refused_number_end(source: &[u8], number: u8, from: usize) -> usize {
     start + source[start..].iter().take_while(|b| (**b as char).is_digit(base)).count()
 }
 
-fn number_of_register(register: &Register) -> u8 {
+fn number_of_register(register: &ast::Register) -> u8 {
     match register {
-        Register::Byte(r) => r.encoding(),
-        Register::Word(r) => 8 + r.encoding(),
+        ast::Register::Byte(r) => r.encoding(),
+        ast::Register::Word(r) => 8 + r.encoding(),
+    }
+}
+
+/// The register of the same name; not of the same number, so that the package's numbers are compared too.
+pub fn register_of(register: &ast::Register) -> Register {
+    match register {
+        ast::Register::Byte(ByteRegister::Al) => Register::Al,
+        ast::Register::Byte(ByteRegister::Cl) => Register::Cl,
+        ast::Register::Byte(ByteRegister::Dl) => Register::Dl,
+        ast::Register::Byte(ByteRegister::Bl) => Register::Bl,
+        ast::Register::Byte(ByteRegister::Ah) => Register::Ah,
+        ast::Register::Byte(ByteRegister::Ch) => Register::Ch,
+        ast::Register::Byte(ByteRegister::Dh) => Register::Dh,
+        ast::Register::Byte(ByteRegister::Bh) => Register::Bh,
+        ast::Register::Word(WordRegister::Ax) => Register::Ax,
+        ast::Register::Word(WordRegister::Cx) => Register::Cx,
+        ast::Register::Word(WordRegister::Dx) => Register::Dx,
+        ast::Register::Word(WordRegister::Bx) => Register::Bx,
+        ast::Register::Word(WordRegister::Sp) => Register::Sp,
+        ast::Register::Word(WordRegister::Bp) => Register::Bp,
+        ast::Register::Word(WordRegister::Si) => Register::Si,
+        ast::Register::Word(WordRegister::Di) => Register::Di,
+    }
+}
+
+/// The segment of the same name.
+pub fn segment_of(segment: &ast::Segment) -> Segment {
+    match segment {
+        ast::Segment::ES => Segment::Es,
+        ast::Segment::CS => Segment::Cs,
+        ast::Segment::SS => Segment::Ss,
+        ast::Segment::DS => Segment::Ds,
+    }
+}
+
+/// The size of the same name.
+pub fn size_of(size: &DataSize) -> Size {
+    match size {
+        DataSize::Byte => Size::Byte,
+        DataSize::Word => Size::Word,
     }
 }
 
@@ -111,7 +151,7 @@ fn refusal_of(error: &ParserError) -> Refusal {
         ParserError::DataDefinitionWithoutData(..) => at(23),
         ParserError::SegmentOrAddressExpected(..) => at(24),
         ParserError::InvalidIndirectEncoding(_, first, second) => {
-            Refusal { first: number_of_register(first), second: second.as_ref().map_or(255, number_of_register), ..at(25) }
+            Refusal { first: Some(register_of(first)), second: second.as_ref().map(register_of), ..at(25) }
         }
         ParserError::UnterminatedStringLiteral(..) => at(26),
         ParserError::SecondOperandExpected(..) => panic!("an error that the original never gives"),
@@ -139,7 +179,7 @@ fn put_expression(out: &mut Listing, expression: &Expression) {
 
 fn put_operand(out: &mut Listing, operand: &Operand) {
     let [f, t] = out.span(operand.span());
-    let size_of = |size: &Option<ast::DataSize>| size.map_or(0, |size| 1 + size as u32);
+    let size_of = |size: &Option<DataSize>| size.map_or(0, |size| 1 + size as u32);
     let segment_of = |segment: &Option<ast::Segment>| segment.map_or(0, |segment| 1 + segment.encoding() as u32);
     match operand {
         Operand::Immediate(_, expression) => {
@@ -286,10 +326,6 @@ fn span_of_panic(source: &str, part: Part, number: u8) -> (usize, usize) {
 /// What the original makes of the part of a source from a place on; places count from the source's first byte.
 fn read_part(source: &str, place: usize, part: Part) -> Answer {
     let rest = &source[place..];
-    let moved = |r: Refusal| match r.number {
-        22 => r, // it has no place
-        _ => Refusal { from: r.from + place, to: r.to + place, ..r },
-    };
     match run(rest, part) {
         Ok(Ok(lines)) => {
             let times = lines.iter().any(|line| matches!(line, Line::Times(..)));
@@ -301,11 +337,11 @@ fn read_part(source: &str, place: usize, part: Part) -> Answer {
             }
             Ok(listing.bytes)
         }
-        Ok(Err(error)) => Err(moved(refusal_of(&error))),
+        Ok(Err(error)) => Err(moved(refusal_of(&error), place)),
         Err(message) => {
             let number = number_of_panic(&message);
             let (from, to) = span_of_panic(rest, part, number);
-            Err(moved(Refusal::at(number, from, to)))
+            Err(moved(Refusal::at(number, from, to), place))
         }
     }
 }
@@ -335,47 +371,40 @@ pub fn read_statement(source: &[u8], place: usize) -> Answer {
 }
 
 /// The original's token at a place.
-pub fn token_at(source: &str, place: usize) -> Found {
+pub fn token_at(source: &str, place: usize) -> Result<laqhoncu::Token, Refusal> {
     match caught(|| Cursor::new(&source[place..]).next_token()) {
-        Ok(token) => {
-            let (kind, value) = kind_of(&token);
-            Found { kind, length: token.len(), value }
-        }
+        Ok(token) => Ok(laqhoncu::Token { kind: kind_of(&token), span: Span { from: place, to: place + token.len() } }),
         Err(message) => {
-            let kind = number_of_panic(&message);
-            Found { kind, length: refused_number_end(source.as_bytes(), kind, place) - place, value: 0 }
+            let number = number_of_panic(&message);
+            Err(Refusal::at(number, place, refused_number_end(source.as_bytes(), number, place)))
         }
     }
 }
 
-/// The kind byte and the value of a token: a punctuation is its own character.
-pub fn kind_of(token: &Token) -> (u8, u32) {
+/// The kind of a token of an ASCII source.
+pub fn kind_of(token: &Token) -> TokenKind {
     match token {
-        Token::Whitespace(_) => (32, 0),
-        Token::Identifier(_) => (97, 0),
-        Token::Literal(_, LiteralKind::Number(value)) => (48, *value as u32),
-        Token::Literal(_, LiteralKind::String(true)) => (39, 0),
-        Token::Literal(_, LiteralKind::String(false)) => (34, 0),
-        Token::Comment(_) => (59, 0),
-        Token::NewLine(_) => (10, 0),
-        Token::EndOfFile(_) => (0, 0),
-        Token::Invalid(_, character) => (33, *character as u32),
-        Token::Punctuation(_, punctuation) => {
-            let character = match punctuation {
-                PunctuationKind::CloseBracket => b']',
-                PunctuationKind::CloseParenthesis => b')',
-                PunctuationKind::Colon => b':',
-                PunctuationKind::Comma => b',',
-                PunctuationKind::Dollar => b'$',
-                PunctuationKind::Dot => b'.',
-                PunctuationKind::ForwardSlash => b'/',
-                PunctuationKind::Minus => b'-',
-                PunctuationKind::OpenBracket => b'[',
-                PunctuationKind::OpenParenthesis => b'(',
-                PunctuationKind::Plus => b'+',
-                PunctuationKind::Star => b'*',
-            };
-            (character, 0)
-        }
+        Token::Whitespace(_) => TokenKind::Whitespace,
+        Token::Identifier(_) => TokenKind::Identifier,
+        Token::Literal(_, LiteralKind::Number(value)) => TokenKind::Number(*value),
+        Token::Literal(_, LiteralKind::String(closed)) => TokenKind::Text { closed: *closed },
+        Token::Comment(_) => TokenKind::Comment,
+        Token::NewLine(_) => TokenKind::NewLine,
+        Token::EndOfFile(_) => TokenKind::EndOfFile,
+        Token::Invalid(_, character) => TokenKind::Invalid(u8::try_from(*character).unwrap()),
+        Token::Punctuation(_, punctuation) => TokenKind::Punctuation(match punctuation {
+            PunctuationKind::CloseBracket => b']',
+            PunctuationKind::CloseParenthesis => b')',
+            PunctuationKind::Colon => b':',
+            PunctuationKind::Comma => b',',
+            PunctuationKind::Dollar => b'$',
+            PunctuationKind::Dot => b'.',
+            PunctuationKind::ForwardSlash => b'/',
+            PunctuationKind::Minus => b'-',
+            PunctuationKind::OpenBracket => b'[',
+            PunctuationKind::OpenParenthesis => b'(',
+            PunctuationKind::Plus => b'+',
+            PunctuationKind::Star => b'*',
+        }),
     }
 }

@@ -1,6 +1,6 @@
 //! A call of the patch, and what it says and writes.
-use crate::answer::Refusal;
 use crate::lent::{filled, left};
+use laqhoncu::Refusal;
 
 pub struct Call<'a> {
     pub source: &'a [u8],
@@ -14,16 +14,16 @@ pub struct Call<'a> {
 pub type Patched = Result<(Vec<u8>, Vec<u8>), Refusal>;
 
 /// A patch: writes the edited source and its listing into the two buffers and gives their lengths, or refuses.
-pub trait Patch: FnMut(&Call, &mut [u8], &mut [u8]) -> Result<(usize, usize), Refusal> {}
-impl<F: FnMut(&Call, &mut [u8], &mut [u8]) -> Result<(usize, usize), Refusal>> Patch for F {}
+pub trait Patch: FnMut(&Call, &mut [u8], &mut [u8]) -> Result<laqhoncu::Patched, Refusal> {}
+impl<F: FnMut(&Call, &mut [u8], &mut [u8]) -> Result<laqhoncu::Patched, Refusal>> Patch for F {}
 
 /// One call, lent so many bytes of a pattern: what it says, with the bytes that it wrote. Panics where it wrote others.
 pub fn called(ours: &mut impl Patch, call: &Call, source_room: usize, listing_room: usize) -> Patched {
     let (mut source, mut listing) = (filled(source_room), filled(listing_room));
     let said = ours(call, &mut source, &mut listing);
-    let (s, l) = *said.as_ref().unwrap_or(&(0, 0));
+    let (s, l) = said.map_or((0, 0), |written| (written.source, written.listing));
     assert!(left(&source, s) && left(&listing, l), "wrote beyond its result: {}", shown(call));
-    said.map(|(s, l)| (source[..s].to_vec(), listing[..l].to_vec()))
+    said.map(|_| (source[..s].to_vec(), listing[..l].to_vec()))
 }
 
 pub fn shown(call: &Call) -> String {

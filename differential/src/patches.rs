@@ -1,9 +1,10 @@
 //! The patch, by its rule: what is expected of it, and the comparison.
-use crate::answer::{fields_of, Refusal};
+use crate::answer::moved;
 use crate::lent::filled;
 use crate::limits;
 use crate::patched::{called, shown, Call, Patch, Patched};
 use crate::sources::{self, Random};
+use laqhoncu::Refusal;
 
 /// What the patch answers, lent these many bytes for the source and for the listing.
 pub fn expected(call: &Call, source_room: usize, listing_room: usize) -> Patched {
@@ -31,15 +32,12 @@ pub fn expected(call: &Call, source_room: usize, listing_room: usize) -> Patched
     }
     // The new line is read with its line feed, if it has one, and with nothing behind it.
     let line = &edited[place..edited.len().min(place + text.len() + 1)];
-    let new = limits::read(line).map_err(|r| match r.number {
-        22 => r,
-        _ => Refusal { from: r.from + place, to: r.to + place, ..r },
-    })?;
+    let new = limits::read(line).map_err(|refusal| moved(refusal, place))?;
     let mut patched = Vec::new();
-    let (moved, kept) = (text.len() as i64 - (end - place) as i64, statements(listing));
+    let (by, kept) = (text.len() as i64 - (end - place) as i64, statements(listing));
     kept.iter().filter(|(at, _)| *at < place).for_each(|(_, records)| patched.extend_from_slice(records));
     patched.extend(shifted(&new, place as i64));
-    kept.iter().filter(|(at, _)| *at >= end).for_each(|(_, records)| patched.extend(shifted(records, moved)));
+    kept.iter().filter(|(at, _)| *at >= end).for_each(|(_, records)| patched.extend(shifted(records, by)));
     if edited.len() > source_room {
         return refused(6);
     }
@@ -68,6 +66,18 @@ fn blank(line: &[u8]) -> bool {
 /// The full read of the line alone, with its tests 1 and 2, refuses it with 34.
 fn leaves_times_open(line: &[u8]) -> bool {
     limits::read(line).is_err_and(|refusal| refusal.number == 34)
+}
+
+/// How many fields follow a mark. Here records are read once more, apart from the library and the package, which are compared with it.
+fn fields_of(mark: &[u8]) -> Option<usize> {
+    Some(match mark {
+        b"ST" => 1,
+        b"VL" | b"VI" | b"VS" | b"OI" | b"OF" | b"LL" | b"LC" | b"LT" => 2,
+        b"VC" | b"PF" | b"IN" | b"OR" | b"OS" | b"LD" => 3,
+        b"OD" => 4,
+        b"OX" | b"LI" => 6,
+        _ => return None,
+    })
 }
 
 /// A record: its mark, its fields, and the bytes of data behind them.

@@ -1,8 +1,9 @@
 //! Compares a full read with the expected one on a source: answer, bytes written, and what must be left as it was.
-use crate::answer::{shown, Answer, Refusal};
+use crate::answer::{shown, Answer};
 use crate::lent::{fill, left};
 use crate::limits;
 use crate::sources;
+use laqhoncu::{Refusal, Statement};
 
 /// A full read: writes the listing into the buffer and gives its length, or refuses.
 pub trait FullRead: FnMut(&[u8], &mut [u8]) -> Result<usize, Refusal> {}
@@ -70,8 +71,8 @@ impl<F: FullRead> Compare<F> {
     }
 }
 
-/// A statement read: the length of what was written and the place of the token ahead, None where no statement is left.
-pub type StatementAnswer = Result<Option<(usize, usize)>, Refusal>;
+/// A statement read; None where no statement is left.
+pub type StatementAnswer = Result<Option<Statement>, Refusal>;
 
 /// Compares a statement read with the expected one at places of a source.
 pub struct CompareStatements<F> {
@@ -106,7 +107,7 @@ impl<F: FnMut(&[u8], usize, &mut [u8]) -> StatementAnswer> CompareStatements<F> 
         let mut buffer = Vec::new();
         fill(&mut buffer, room);
         let answer = (self.ours)(source, place, &mut buffer);
-        let said = answer.map(|read| read.map(|(length, ahead)| (buffer[..length].to_vec(), ahead)));
+        let said = answer.map(|read| read.map(|read| (buffer[..read.length].to_vec(), read.ahead)));
         let text = String::from_utf8_lossy(source);
         assert!(said == *expected, "{text:?} at {place}\nlent {room} bytes\nexpected {expected:?}\nsaid {said:?}");
         let written = said.ok().flatten().map_or(0, |(listing, _)| listing.len());

@@ -1,8 +1,8 @@
 //! Recorded answers of the original, for where it is not there: a line for each source, its text escaped, a tab, the answer.
-use crate::answer::{shown, Answer, Refusal};
-use crate::found::{Found, Named};
+use crate::answer::{shown, Answer, Named};
 use crate::samples::samples;
 use crate::sources::{self, Random};
+use laqhoncu::{Directive, Name, Refusal, Token, TokenKind};
 
 pub fn escaped(text: &[u8]) -> String {
     text.escape_ascii().to_string()
@@ -65,21 +65,48 @@ pub fn replayed() -> (Vec<u8>, String) {
     (stdin, stdout)
 }
 
-/// All tokens of a source, each `kind:length:value`, up to the end of file or a refused number.
-pub fn tokens_of(source: &[u8], read: &mut impl FnMut(&[u8], usize) -> Found) -> String {
+/// The number and the value by which a kind of token is recorded: those of include/laqhoncu.h.
+fn flat(kind: TokenKind) -> (u8, i32) {
+    match kind {
+        TokenKind::Whitespace => (b' ', 0),
+        TokenKind::Comment => (b';', 0),
+        TokenKind::NewLine => (b'\n', 0),
+        TokenKind::EndOfFile => (0, 0),
+        TokenKind::Identifier => (b'a', 0),
+        TokenKind::Number(value) => (b'0', value),
+        TokenKind::Text { closed: true } => (b'\'', 0),
+        TokenKind::Text { closed: false } => (b'"', 0),
+        TokenKind::Punctuation(byte) => (byte, 0),
+        TokenKind::Invalid(byte) => (b'!', byte as i32),
+    }
+}
+
+/// All tokens of a source, each `kind:length:value`, up to the end of file or a refused number, whose kind is the refusal's number.
+pub fn tokens_of(source: &[u8], read: &mut impl FnMut(&[u8], usize) -> Result<Token, Refusal>) -> String {
     let (mut place, mut list) = (0, Vec::new());
     loop {
-        let Found { kind, length, value } = read(source, place);
-        list.push(format!("{kind}:{length}:{value}"));
-        place += length;
-        if let 0 | 30 | 31 = kind {
+        let read = read(source, place);
+        let ((kind, value), span) = match read {
+            Ok(token) => (flat(token.kind), token.span),
+            Err(refusal) => ((refusal.number, 0), refusal.span),
+        };
+        list.push(format!("{kind}:{}:{value}", span.to - place));
+        place = span.to;
+        if read.is_err() || kind == 0 {
             return list.join(" ");
         }
     }
 }
 
+/// What a word names, 255 where it names none: the operation; registers from 0 on, segments from 16, sizes from 20; the directive.
 pub fn names_of(word: &[u8], look: &mut impl FnMut(&[u8]) -> Named) -> String {
     let Named { operation, name, directive } = look(word);
+    let name = name.map(|name| match name {
+        Name::Register(register) => register.number(),
+        Name::Segment(segment) => 16 + segment.number(),
+        Name::Size(size) => 20 + size.number(),
+    });
+    let [operation, name, directive] = [operation, name, directive.map(Directive::number)].map(|number| number.unwrap_or(255));
     format!("{operation} {name} {directive}")
 }
 

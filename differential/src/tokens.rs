@@ -1,12 +1,11 @@
 //! Compares a token read with the original's `Cursor::next_token`.
-use crate::answer::Refusal;
-use crate::found::Found;
 use crate::original;
 use crate::sources::{self, Random};
+use laqhoncu::{Refusal, Token, TokenKind};
 
 /// A token read at a place of a source.
-pub trait TokenRead: FnMut(&[u8], usize) -> Found {}
-impl<F: FnMut(&[u8], usize) -> Found> TokenRead for F {}
+pub trait TokenRead: FnMut(&[u8], usize) -> Result<Token, Refusal> {}
+impl<F: FnMut(&[u8], usize) -> Result<Token, Refusal>> TokenRead for F {}
 
 pub struct Compare<F> {
     ours: F,
@@ -20,7 +19,7 @@ impl<F: TokenRead> Compare<F> {
         Self { ours, sources: 0, tokens: 0, refused: [0, 0] }
     }
 
-    fn at(&mut self, source: &str, place: usize) -> Found {
+    fn at(&mut self, source: &str, place: usize) -> Result<Token, Refusal> {
         let expected = original::token_at(source, place);
         let said = (self.ours)(source.as_bytes(), place);
         assert!(said == expected, "{source:?} at {place}\nexpected {expected:?}\nsaid     {said:?}");
@@ -34,13 +33,15 @@ impl<F: TokenRead> Compare<F> {
         self.sources += 1;
         let mut place = 0;
         loop {
-            let found = self.at(source, place);
-            match found.kind {
-                0 => return assert_eq!(place, source.len(), "an end of file before the end: {source:?}"),
-                30 | 31 => return self.refused[found.kind as usize - 30] += 1,
-                _ => assert!(found.length > 0, "a token of no bytes: {source:?} at {place}"),
+            let token = match self.at(source, place) {
+                Ok(token) => token,
+                Err(refusal) => return self.refused[refusal.number as usize - 30] += 1,
+            };
+            if token.kind == TokenKind::EndOfFile {
+                return assert_eq!(place, source.len(), "an end of file before the end: {source:?}");
             }
-            place += found.length;
+            assert!(token.span.to > place, "a token of no bytes: {source:?} at {place}");
+            place = token.span.to;
         }
     }
 
@@ -49,7 +50,7 @@ impl<F: TokenRead> Compare<F> {
         let source = std::str::from_utf8(source).expect("the original reads characters");
         self.sources += 1;
         for place in 0..=source.len() {
-            self.at(source, place);
+            let _ = self.at(source, place);
         }
     }
 
@@ -95,19 +96,16 @@ impl<F: TokenRead> Compare<F> {
     }
 }
 
-/// What the token read at a place answers: 42, 1 and 2 come before the token, and a refused number is a refusal.
-pub fn call(source: &[u8], place: usize) -> Result<Found, Refusal> {
+/// What the token read at a place answers: 42, 1 and 2 come before the token.
+pub fn call(source: &[u8], place: usize) -> Result<Token, Refusal> {
     if place > source.len() {
         return Err(Refusal::at(42, 0, 0));
     }
-    match original::token_at(original::lent(source)?, place) {
-        Found { kind: kind @ (30 | 31), length, .. } => Err(Refusal::at(kind, place, place + length)),
-        found => Ok(found),
-    }
+    original::token_at(original::lent(source)?, place)
 }
 
 /// Compares the token read at places of a source, beyond its end too. Gives how many calls there were, and how often each refusal.
-pub fn calls(mut ours: impl FnMut(&[u8], usize) -> Result<Found, Refusal>) -> (u64, [u64; 64]) {
+pub fn calls(mut ours: impl TokenRead) -> (u64, [u64; 64]) {
     let (mut count, mut met, mut turn) = (0, [0; 64], 0);
     let mut at = |source: &[u8], place: usize| {
         let (expected, said) = (call(source, place), ours(source, place));

@@ -1,5 +1,7 @@
 //! Compares the lookup of words with the original's `from_str`.
-use crate::found::{Named, NONE};
+use crate::answer::Named;
+use crate::original::{register_of, segment_of, size_of};
+use laqhoncu::{Directive, Name};
 use mrc_compiler::ast::{DataSize, Register, Segment};
 use mrc_compiler::operations::Operation;
 use std::str::FromStr;
@@ -7,26 +9,21 @@ use std::str::FromStr;
 /// What the original makes of a word.
 pub fn original(word: &str) -> Named {
     let name = if let Ok(register) = Register::from_str(word) {
-        match register {
-            Register::Byte(register) => register.encoding(),
-            Register::Word(register) => 8 + register.encoding(),
-        }
+        Some(Name::Register(register_of(&register)))
     } else if let Ok(segment) = Segment::from_str(word) {
-        16 + segment.encoding()
-    } else if let Ok(size) = DataSize::from_str(word) {
-        20 + size as u8
+        Some(Name::Segment(segment_of(&segment)))
     } else {
-        NONE
+        DataSize::from_str(word).ok().map(|size| Name::Size(size_of(&size)))
     };
     // The original has no type for these: its parser compares the lower case.
     let directive = match word.to_lowercase().as_str() {
-        "equ" => 0,
-        "db" => 1,
-        "dw" => 2,
-        "times" => 3,
-        _ => NONE,
+        "equ" => Some(Directive::Equ),
+        "db" => Some(Directive::Db),
+        "dw" => Some(Directive::Dw),
+        "times" => Some(Directive::Times),
+        _ => None,
     };
-    Named { operation: Operation::from_str(word).map_or(NONE, |operation| operation as u8), name, directive }
+    Named { operation: Operation::from_str(word).ok().map(|operation| operation as u8), name, directive }
 }
 
 /// The spellings of operations, taken from the original's own text: the quoted words in its `from_str`.
@@ -63,7 +60,7 @@ impl<F: Lookup> Compare<F> {
         let said = (self.ours)(word);
         assert!(said == expected, "{:?}\nexpected {expected:?}\nsaid     {said:?}", String::from_utf8_lossy(word));
         self.words += 1;
-        self.named += (expected != Named { operation: NONE, name: NONE, directive: NONE }) as u64;
+        self.named += (expected != Named::default()) as u64;
     }
 
     /// Every word up to `most` letters and digits; every spelling in every mixture of case; every one-letter change of each.

@@ -1,13 +1,14 @@
 //! Speed, ours beside the original's, on the same inputs in the same run: `cargo run --release --bin bench [ROUNDS]`.
 //! The two take turns; the best round of each counts, and the median is shown beside it.
-#[cfg(not(all(library, original)))]
+#[cfg(not(original))]
 fn main() {
-    panic!("needs the library (`rt staticlib exports`) and the original's sources (MRC_SOURCE)");
+    panic!("the original's sources are not there (MRC_SOURCE)");
 }
 
-#[cfg(all(library, original))]
+#[cfg(original)]
 fn main() {
-    use differential::{ours, sources};
+    use differential::sources;
+    use laqhoncu::{Patched, TokenKind};
     use mrc_compiler::ast::{DataSize, Register, Segment};
     use mrc_compiler::lexer::{Cursor, Token};
     use mrc_compiler::operations::Operation;
@@ -20,12 +21,12 @@ fn main() {
         let by_ours = || {
             let (mut place, mut count) = (0, 0u64);
             loop {
-                let found = ours::token(text.as_bytes(), place);
+                let token = black_box(laqhoncu::token(text.as_bytes(), place).unwrap());
                 count += 1;
-                if found.kind == 0 {
+                if token.kind == TokenKind::EndOfFile {
                     return black_box(count);
                 }
-                place += found.length;
+                place = token.span.to;
             }
         };
         let by_original = || {
@@ -40,7 +41,7 @@ fn main() {
         let tokens = by_ours();
         assert_eq!(tokens, by_original());
         // All tokens in one call, the end of file among them; one call a token; and the original, whose loop is compiled with it.
-        let counted = || black_box(ours::count(text.as_bytes()) as u64 + 1);
+        let counted = || black_box(laqhoncu::count(text.as_bytes()) as u64 + 1);
         assert_eq!(tokens, counted());
         let (all, _) = in_turn(rounds, counted, by_original);
         let (ours, original) = in_turn(rounds, by_ours, by_original);
@@ -66,15 +67,10 @@ fn main() {
             }
         };
         let (ours_operation, original_operation) =
-            in_turn(rounds, || each(&words, |word| ours::operation(word.as_bytes())), || each(&words, Operation::from_str));
-        let rows: Vec<[u8; 8]> = words.iter().map(|word| ours::row(word.as_bytes())).collect();
-        let mut numbers = vec![0; rows.len()];
-        let (ours_batch, _) = in_turn(rounds, || ours::operations(black_box(&rows), &mut numbers), || {});
-        assert!(words.iter().zip(&numbers).all(|(word, number)| ours::operation(word.as_bytes()) == *number));
-        let (ours_name, original_name) = in_turn(rounds, || each(&words, |word| ours::name(word.as_bytes())), || each(&words, name));
+            in_turn(rounds, || each(&words, |word| laqhoncu::operation(word.as_bytes())), || each(&words, Operation::from_str));
+        let (ours_name, original_name) = in_turn(rounds, || each(&words, |word| laqhoncu::name(word.as_bytes())), || each(&words, name));
         println!("  names: {} words", words.len());
         for (who, time) in [
-            ("ours, operations of all words", ours_batch),
             ("ours, operation (makes the table)", ours_operation),
             ("original, operation", original_operation),
             ("ours, register, segment or size", ours_name),
@@ -112,20 +108,19 @@ fn main() {
     println!("\none line in the middle exchanged: the patch, the full read of the edited source, and a copy of the same bytes");
     for (title, make) in [("marker lines", sources::marker_lines as fn(usize) -> String), ("code lines", sources::code_lines)] {
         let text = make(65500);
-        let length = ours::full_read(text.as_bytes(), &mut buffer).unwrap();
-        let listing = buffer[..length].to_vec();
+        let listing = laqhoncu::listing(text.as_bytes()).unwrap();
         let middle = text.len() / 2;
         let place = middle + text[middle..].find('\n').unwrap() + 1;
         let new = b"weld dw 12345, 6 ; moved";
         let (mut source, mut out) = (vec![0; 65536], vec![0; 18 * 65536]);
-        let (s, l) = ours::patch(text.as_bytes(), &listing, place, new, &mut source, &mut out).unwrap();
+        let Patched { source: s, listing: l } = laqhoncu::patch(text.as_bytes(), &listing, place, new, &mut source, &mut out).unwrap();
         let (edited, expected) = (source[..s].to_vec(), out[..l].to_vec());
-        assert_eq!(ours::full_read(&edited, &mut buffer), Ok(l));
+        assert_eq!(laqhoncu::full_read(&edited, &mut buffer), Ok(l));
         assert!(buffer[..l] == expected);
         let (patch, full) = in_turn(
             rounds,
-            || ours::patch(black_box(text.as_bytes()), &listing, place, new, &mut source, &mut out).unwrap(),
-            || ours::full_read(black_box(&edited), &mut buffer).unwrap(),
+            || laqhoncu::patch(black_box(text.as_bytes()), &listing, place, new, &mut source, &mut out).unwrap(),
+            || laqhoncu::full_read(black_box(&edited), &mut buffer).unwrap(),
         );
         let (copied, _) = in_turn(
             rounds,
@@ -165,18 +160,18 @@ fn main() {
 }
 
 /// Reads a source so many times; it has to be accepted.
-#[cfg(all(library, original))]
+#[cfg(original)]
 fn full_reads<'a>(text: &'a str, turns: usize, buffer: &'a mut [u8]) -> impl FnMut() + 'a {
     move || {
         for _ in 0..turns {
-            let length = differential::ours::full_read(std::hint::black_box(text.as_bytes()), buffer);
+            let length = laqhoncu::full_read(std::hint::black_box(text.as_bytes()), buffer);
             assert!(std::hint::black_box(length).is_ok());
         }
     }
 }
 
 /// The original's parse, line by line to the end.
-#[cfg(all(library, original))]
+#[cfg(original)]
 fn parse(text: &str) {
     let mut parser = mrc_compiler::parser::Parser::new(std::hint::black_box(text));
     while let Some(line) = parser.parse_line().unwrap_or_else(|_| panic!("refused")) {
@@ -185,21 +180,21 @@ fn parse(text: &str) {
 }
 
 /// Looks every word up.
-#[cfg(all(library, original))]
+#[cfg(original)]
 fn each<T>(words: &[&str], look: impl Fn(&str) -> T) {
     for word in words {
         std::hint::black_box(look(word));
     }
 }
 
-#[cfg(all(library, original))]
+#[cfg(original)]
 struct Time {
     best: f64,
     median: f64,
 }
 
 /// Times both in seconds, one round of each in turn.
-#[cfg(all(library, original))]
+#[cfg(original)]
 fn in_turn<A, B>(rounds: usize, mut a: impl FnMut() -> A, mut b: impl FnMut() -> B) -> (Time, Time) {
     let (mut of_a, mut of_b) = (Vec::new(), Vec::new());
     for _ in 0..rounds {
@@ -213,7 +208,7 @@ fn in_turn<A, B>(rounds: usize, mut a: impl FnMut() -> A, mut b: impl FnMut() ->
     (time(of_a), time(of_b))
 }
 
-#[cfg(all(library, original))]
+#[cfg(original)]
 fn timed<T>(mut f: impl FnMut() -> T) -> f64 {
     let begun = std::time::Instant::now();
     std::hint::black_box(f());
@@ -221,7 +216,7 @@ fn timed<T>(mut f: impl FnMut() -> T) -> f64 {
 }
 
 /// The words of a text, as the lexer finds them.
-#[cfg(all(library, original))]
+#[cfg(original)]
 fn words_of(text: &str) -> Vec<&str> {
     let mut cursor = mrc_compiler::lexer::Cursor::new(text);
     let mut words = Vec::new();

@@ -1,60 +1,55 @@
 //! Compares the proved library with the original, or, where the original is not there, with its recorded answers.
 //! Ends with a panic at the first difference. `--long` takes more sources.
-#[cfg(not(library))]
-fn main() {
-    panic!("the library is not there: run `rt staticlib exports` first");
+use differential::answer::Named;
+use differential::patched::Call;
+use differential::{known, recorded, values};
+use laqhoncu::{Patched, Refusal};
+
+fn patch(call: &Call, source: &mut [u8], listing: &mut [u8]) -> Result<Patched, Refusal> {
+    laqhoncu::patch(call.source, call.listing, call.place, call.text, source, listing)
 }
 
-#[cfg(library)]
-use differential::answer::Refusal;
-#[cfg(library)]
-use differential::{known, ours, patched, recorded, values};
-
-#[cfg(library)]
-fn patch(call: &patched::Call, source: &mut [u8], listing: &mut [u8]) -> Result<(usize, usize), Refusal> {
-    ours::patch(call.source, call.listing, call.place, call.text, source, listing)
+fn named(word: &[u8]) -> Named {
+    Named { operation: laqhoncu::operation(word), name: laqhoncu::name(word), directive: laqhoncu::directive(word) }
 }
 
-#[cfg(library)]
 fn main() {
     let long = std::env::args().any(|word| word == "--long");
     let begun = std::time::Instant::now();
 
     let (mut tokens, mut words) = (0, 0);
     for (source, expected) in recorded::entries(recorded::TOKENS) {
-        let said = recorded::tokens_of(&source, &mut |source, place| ours::token(source, place));
+        let said = recorded::tokens_of(&source, &mut laqhoncu::token);
         assert!(said == expected, "{:?}\nrecorded {expected}\nsaid     {said}", recorded::escaped(&source));
         tokens += 1;
     }
     for (word, expected) in recorded::entries(recorded::WORDS) {
-        let said = recorded::names_of(&word, &mut |word| ours::named(word));
+        let said = recorded::names_of(&word, &mut named);
         assert!(said == expected, "{:?}\nrecorded {expected}\nsaid     {said}", recorded::escaped(&word));
         words += 1;
     }
-    let (mut reads, mut buffer) = (0, Vec::new());
+    let mut reads = 0;
     for (source, expected) in recorded::entries(recorded::READS) {
-        buffer.resize(18 * source.len(), 0);
-        let answer = ours::full_read(&source, &mut buffer).map(|length| buffer[..length].to_vec());
-        let said = recorded::read_of(&answer);
+        let said = recorded::read_of(&laqhoncu::listing(&source));
         assert!(said == expected, "{:?}\nrecorded {expected}\nsaid     {said}", recorded::escaped(&source));
         reads += 1;
     }
     assert!(tokens > 1000 && words > 500 && reads > 500, "the recorded lists are short");
     println!("recorded answers: tokens of {tokens} sources, {words} words, {reads} full reads, all as recorded");
     println!("known patches: {} calls, all as the rules say", known::replay(patch));
-    let (values, met) = values::all(if long { 10_000_000 } else { 500_000 }, ours::evaluate);
+    let (values, met) = values::all(if long { 10_000_000 } else { 500_000 }, laqhoncu::evaluate);
     assert!(met.iter().all(|count| *count > 100), "too little was compared");
     println!("evaluate: {values} calls, {} refused with 50, {} with 51: all as exact arithmetic says", met[0], met[1]);
     with_original(long);
     println!("compared in {:.1} s", begun.elapsed().as_secs_f64());
 }
 
-#[cfg(all(library, original))]
+#[cfg(original)]
 fn with_original(long: bool) {
     use differential::reads::{self, on_a_large_stack};
     use differential::{patches, tokens, words};
 
-    let mut compare = tokens::Compare::new(ours::token);
+    let mut compare = tokens::Compare::new(laqhoncu::token);
     compare.all(if long { 10 } else { 1 });
     let [larger_digit, too_large] = compare.refused;
     assert!(compare.sources > 3_000_000 && larger_digit > 0 && too_large > 0, "too little was compared");
@@ -62,17 +57,17 @@ fn with_original(long: bool) {
         "tokens: {} sources, {} tokens, {larger_digit} refused with 30, {too_large} with 31: all as the original's",
         compare.sources, compare.tokens
     );
-    let (calls, met) = tokens::calls(ours::token_read);
+    let (calls, met) = tokens::calls(laqhoncu::token_read);
     for number in [1, 2, 30, 31, 42] {
         assert!(met[number] > 10, "refusal {number} is met {} times only", met[number]);
     }
     println!("token reads: {calls} calls, at and beyond the end, sources that are too long or not ASCII: all as expected");
-    let mut compare = words::Compare::new(ours::named);
+    let mut compare = words::Compare::new(named);
     compare.all(if long { 4 } else { 3 });
     assert!(compare.words > 300_000 && compare.named > 4000, "too little was compared");
     println!("names: {} words, {} of them names: all as the original's", compare.words, compare.named);
 
-    let mut compare = reads::Compare::new(ours::full_read);
+    let mut compare = reads::Compare::new(laqhoncu::full_read);
     let compare = on_a_large_stack(move || {
         compare.all(if long { 10 } else { 1 });
         compare
@@ -86,7 +81,7 @@ fn with_original(long: bool) {
         "full reads: {} sources, {} accepted with {} bytes of listings, the others refused with each of 24 numbers: all as the original's",
         count.sources, count.accepted, count.records_bytes
     );
-    let mut compare = reads::CompareStatements::new(ours::statement_read);
+    let mut compare = reads::CompareStatements::new(laqhoncu::statement_read);
     let compare = on_a_large_stack(move || {
         compare.all(if long { 10 } else { 1 });
         compare
@@ -114,15 +109,16 @@ fn with_original(long: bool) {
         println!("damaged listings: {calls} calls, {refused} refused with 41: all as a second checker says");
         println!("order of refusals: {} sets of causes, each refused by its first", patches::order(patch));
         let wanted = if long { 3_000_000 } else { 300_000 };
-        let [calls, accepted, refused, open] = patches::as_full_read(wanted, patch, ours::full_read);
+        let [calls, accepted, refused, open] = patches::as_full_read(wanted, patch, laqhoncu::full_read);
         assert!(accepted > 50_000 && refused > 10_000 && open > 1000, "too little was compared");
         println!(
-            "patch and full read: {calls} edits of accepted sources, {accepted} accepted, {refused} refused, all as the full read of the edited source; {open} refused with 40"
+            "patch and full read: {calls} edits of accepted sources, {accepted} accepted, {refused} refused, \
+             all as the full read of the edited source; {open} refused with 40"
         );
     });
 }
 
-#[cfg(all(library, not(original)))]
+#[cfg(not(original))]
 fn with_original(_long: bool) {
     println!("the original's sources are not there (MRC_SOURCE): only its recorded answers were replayed");
 }

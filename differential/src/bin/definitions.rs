@@ -1,31 +1,9 @@
 //! Writes the recorded reads as rows over the rules' definitions: a crate of specs whose claims the checker computes.
 //! Argument: the folder of that crate.
+use differential::recorded;
 use std::{env, fmt::Write, fs, path::Path};
 
 const ROWS: usize = 40; // in a module
-
-fn unescaped(text: &str) -> Vec<u8> {
-    let mut bytes = Vec::new();
-    let mut rest = text.bytes();
-    while let Some(byte) = rest.next() {
-        if byte != b'\\' {
-            bytes.push(byte);
-            continue;
-        }
-        match rest.next() {
-            Some(b'n') => bytes.push(b'\n'),
-            Some(b'r') => bytes.push(b'\r'),
-            Some(b't') => bytes.push(b'\t'),
-            Some(b'x') => {
-                let digits = [rest.next().unwrap(), rest.next().unwrap()];
-                bytes.push(u8::from_str_radix(std::str::from_utf8(&digits).unwrap(), 16).unwrap());
-            }
-            Some(other) => bytes.push(other),
-            None => panic!("a row ends in a backslash"),
-        }
-    }
-    bytes
-}
 
 fn list<T: std::fmt::Display>(items: impl IntoIterator<Item = T>) -> String {
     let mut text = String::from("(");
@@ -62,15 +40,8 @@ fn answer(text: &str) -> String {
 fn main() {
     let folder = env::args().nth(1).expect("the folder of the crate");
     let folder = Path::new(&folder);
-    let recorded = Path::new(env!("CARGO_MANIFEST_DIR")).join("recorded/reads.txt");
-    let rows: Vec<String> = fs::read_to_string(recorded)
-        .unwrap()
-        .lines()
-        .map(|line| {
-            let (source, said) = line.rsplit_once('\t').expect("a tab between source and answer");
-            format!("row {} ({})", list(unescaped(source)), answer(said))
-        })
-        .collect();
+    let rows: Vec<String> =
+        recorded::entries(recorded::READS).map(|(source, said)| format!("row {} ({})", list(source), answer(said))).collect();
     fs::create_dir_all(folder.join("specs")).unwrap();
     fs::create_dir_all(folder.join("src")).unwrap();
     fs::write(folder.join("src/lib.rt"), "// The recorded reads, computed by the definitions.\n").unwrap();

@@ -1,35 +1,35 @@
-//! Prints the tokens of a source on standard input as the proved library reads them: kind, span, text.
-#[cfg(not(library))]
-fn main() {
-    panic!("the library is not there: run `rt staticlib exports` first");
-}
+//! Prints the tokens of a source on standard input as the proved library reads them, up to a refused number: span, kind, text.
+use laqhoncu::TokenKind;
+use std::io::Read;
 
-#[cfg(library)]
 fn main() {
-    use std::io::Read;
     let (mut source, mut place) = (Vec::new(), 0);
     std::io::stdin().read_to_end(&mut source).unwrap();
     loop {
-        let found = differential::ours::token(&source, place);
-        let end = place + found.length;
-        let (kind, value) = match found.kind {
-            0 => ("end of file", String::new()),
-            b'\n' => ("line end", String::new()),
-            b' ' => ("whitespace", String::new()),
-            b';' => ("comment", String::new()),
-            b'a' => ("name", String::new()),
-            b'0' => ("number", found.value.to_string()),
-            b'\'' => ("string", String::new()),
-            b'"' => ("unclosed string", String::new()),
-            b'!' => ("invalid", String::new()),
-            30 => ("refused 30", String::new()),
-            31 => ("refused 31", String::new()),
-            _ => ("punctuation", String::new()),
+        let read = laqhoncu::token(&source, place);
+        let (span, kind) = match read {
+            Ok(token) => (token.span, shown(token.kind)),
+            Err(refusal) => (refusal.span, format!("refused {}: {refusal}", refusal.number)),
         };
-        println!("{place}..{end}\t{kind}\t{}\t{value}", source[place..end].escape_ascii());
-        if let 0 | 30 | 31 = found.kind {
+        println!("{span}\t{kind}\t{}", source[span.range()].escape_ascii());
+        if read.map_or(true, |token| token.kind == TokenKind::EndOfFile) {
             return;
         }
-        place = end;
+        place = span.to;
+    }
+}
+
+fn shown(kind: TokenKind) -> String {
+    match kind {
+        TokenKind::Whitespace => "whitespace".to_string(),
+        TokenKind::Comment => "comment".to_string(),
+        TokenKind::NewLine => "line end".to_string(),
+        TokenKind::EndOfFile => "end of file".to_string(),
+        TokenKind::Identifier => "name".to_string(),
+        TokenKind::Number(value) => format!("number {value}"),
+        TokenKind::Text { closed: true } => "text".to_string(),
+        TokenKind::Text { closed: false } => "unclosed text".to_string(),
+        TokenKind::Punctuation(_) => "punctuation".to_string(),
+        TokenKind::Invalid(_) => "invalid".to_string(),
     }
 }
