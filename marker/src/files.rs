@@ -7,7 +7,7 @@ use std::ffi::{OsStr, OsString, c_int};
 use std::fs::{self, DirEntry, File, FileType, Metadata, Permissions, TryLockError};
 use std::hash::{BuildHasher, Hasher};
 use std::io::{self, Read, Write};
-use std::os::fd::IntoRawFd;
+use std::os::fd::{AsFd, IntoRawFd};
 use std::os::unix::ffi::{OsStrExt, OsStringExt};
 use std::os::unix::fs::{FileTypeExt, MetadataExt, OpenOptionsExt, PermissionsExt, fchown};
 use std::path::{Path, PathBuf};
@@ -39,8 +39,10 @@ fn read_all(from: impl Read) -> io::Result<Vec<u8>> {
     Ok(source)
 }
 
+/// Not through `Stdin`, which takes an input that is not open for reading for an empty one.
 pub fn standard_input() -> Result<Vec<u8>, Stop> {
-    read_all(io::stdin().lock()).map_err(|error| Stop::failed(format!("standard input: {}", reason(&error))))
+    let input = io::stdin().as_fd().try_clone_to_owned();
+    input.and_then(|input| read_all(File::from(input))).map_err(|error| Stop::failed(format!("standard input: {}", reason(&error))))
 }
 
 /// The bytes of a file, or of standard input for `-`.
@@ -178,7 +180,8 @@ impl Held {
             return Err(no(io::Error::last_os_error()));
         }
         self.look_again(name)?;
-        fs::rename(&new.path, &self.path).map_err(no)?;
+        fs::rename(&new.path, &self.path)
+            .map_err(|error| Stop::failed(format!("{}: the new file cannot take its place: {}", name.display(), reason(&error))))?;
         new.renamed = true;
         opened_folder.sync_all().map_err(|error| {
             Stop::failed(format!(
@@ -255,10 +258,10 @@ fn new_name(base: &OsStr) -> OsString {
     OsString::from_vec([&head, format!("{:016x}{:016x}", random(), random()).as_bytes(), tail].concat())
 }
 
-/// Removes new files that an edit of this file left behind when it was cut off. The file is held, so no edit has one in use; but a name that is
-/// cut may be another file's too.
+/// Removes new files that an edit of this file left behind when it was cut off. The file is held, so no edit has one in use; but a name as
+/// long as those that are cut may be another file's too.
 fn remove_leftovers(folder: &Path, base: &OsStr) {
-    if base.len() > BASE {
+    if base.len() >= BASE {
         return;
     }
     let (head, tail) = parts(base);
