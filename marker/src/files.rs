@@ -170,10 +170,11 @@ impl Held {
         let mut new = New { path, renamed: false };
         let is_owner_kept = self.keep_owner(name, &file, force)?;
         file.write_all(bytes).map_err(no)?;
-        // Behind the owner, since a change of owner takes bits away; and another owner's file gives nobody its owner's rights.
+        self.keep_attributes(name, &file, force)?;
+        // Last, since a change of owner takes bits away, and since a list that the folder has given to the file is shut until here; and
+        // another owner's file gives nobody its owner's rights.
         let mode = self.metadata.mode() & if is_owner_kept { 0o7777 } else { 0o777 };
         file.set_permissions(Permissions::from_mode(mode)).map_err(no)?;
-        self.keep_attributes(name, &file, force)?;
         file.sync_all().map_err(no)?;
         // Its answer counts, and dropping the file would not give it.
         if close(file.into_raw_fd()) < 0 {
