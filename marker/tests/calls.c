@@ -3,6 +3,8 @@
      CALLS_FAIL=`fsync new`     this call fails, with the errno CALLS_ERRNO (a number; EIO without it)
      CALLS_FROM=3               but not before it has been done three times
      CALLS_TIMES=1              and only once
+     CALLS_FAIL_ALSO=unlink     this call fails too, each time
+     CALLS_NOTHING=1            each write moves nothing, and says so
      CALLS_SHORT=1              each read and write moves one byte
      CALLS_SLOW=500             each call comes so many microseconds later
      CALLS_PAUSE=`close new`    before this call the file that CALLS_PAUSED names is made, and the call waits until it is gone */
@@ -47,7 +49,8 @@ static long number(const char *name, long otherwise) {
 static int fails(const char *call, const char *on) {
     static long seen;
     char name[64];
-    const char *chosen = getenv("CALLS_FAIL"), *pause = getenv("CALLS_PAUSE"), *paused = getenv("CALLS_PAUSED");
+    const char *chosen = getenv("CALLS_FAIL"), *also = getenv("CALLS_FAIL_ALSO");
+    const char *pause = getenv("CALLS_PAUSE"), *paused = getenv("CALLS_PAUSED");
     long from = number("CALLS_FROM", 0);
     snprintf(name, sizeof name, on ? "%s %s" : "%s", call, on);
     usleep((useconds_t)number("CALLS_SLOW", 0));
@@ -56,6 +59,10 @@ static int fails(const char *call, const char *on) {
         if (fd < 0) give_up("calls.c: no pause\n");
         syscall(SYS_close, fd);
         while (access(paused, F_OK) == 0) usleep(1000);
+    }
+    if (also && strcmp(also, name) == 0) {
+        errno = EIO;
+        return 1;
     }
     if (!chosen || strcmp(chosen, name) != 0) return 0;
     seen++;
@@ -117,6 +124,7 @@ ssize_t write(int fd, const void *from, size_t length) {
     long moved;
     if (fd <= 2) return syscall(SYS_write, fd, from, length);
     if (fails("write", role(fd))) return -1;
+    if (getenv("CALLS_NOTHING")) return 0;
     moved = syscall(SYS_write, fd, from, length > 1 && getenv("CALLS_SHORT") ? 1 : length);
     note_call("write", fd, " %ld", moved);
     return moved;
