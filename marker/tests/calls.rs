@@ -156,6 +156,24 @@ fn a_call_left_out_or_out_of_order_is_seen() {
     }
 }
 
+#[test]
+fn what_is_no_regular_file_is_not_even_opened() {
+    let (room, calls) = (Room::new("not-opened"), Calls::new("not-opened"));
+    fs::create_dir(room.path("d")).unwrap();
+    assert!(Command::new("mkfifo").arg(room.path("p")).status().unwrap().success());
+    let has_device = Command::new("mknod").arg(room.path("n")).args(["c", "1", "3"]).status().is_ok_and(|status| status.success());
+    // A file is, and is seen to be.
+    room.put("f", "nop\n");
+    run(calls.on(&mut room.marker(["check", "f"]), &[]), b"").is(0, "1 file checked, none refused\n", "");
+    assert!(calls.log().iter().any(|line| line.starts_with("open file")), "{:#?}", calls.log());
+    for name in ["d", "p", "n"].iter().filter(|name| **name != "n" || has_device) {
+        for words in [&["edit", name, "1", "nop"][..], &["list", name], &["check", name]] {
+            assert_ne!(run(calls.on(&mut room.marker(words), &[]), b"").status, Some(0));
+            assert_eq!(calls.log(), [] as [&str; 0], "{words:?}");
+        }
+    }
+}
+
 /// Runs an edit of line 2 of `nop`, `ret` with a call that fails.
 fn failing(room: &Room, calls: &Calls, words: &[&str], variables: &[(&str, &str)]) -> Said {
     run(calls.on(&mut room.marker(words), variables), b"")
