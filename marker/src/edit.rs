@@ -12,8 +12,8 @@ pub fn edit(name: &OsStr, line: usize, text: &[u8], force: bool) -> Result<Statu
         return Ok(Status::Done);
     }
     let path = Path::new(name);
-    let (held, old) = files::hold(path)?;
-    let source = edited(&said, &old, line, text)?;
+    let held = files::hold(path)?;
+    let source = edited(&said, &held.source, line, text)?;
     held.replace(path, &source, force)?;
     // It is done, whether or not that can be said where it should.
     print(format!("{said}: line {line} replaced\n")).map_err(|stop| match stop.message.as_str() {

@@ -6,7 +6,7 @@ use std::collections::hash_map::RandomState;
 use std::ffi::{OsStr, OsString, c_int};
 use std::fs::{self, DirEntry, File, FileType, Metadata, Permissions, TryLockError};
 use std::hash::{BuildHasher, Hasher};
-use std::io::{self, Read, Write};
+use std::io::{self, Read, Seek, Write};
 use std::os::fd::{AsFd, IntoRawFd};
 use std::os::unix::ffi::{OsStrExt, OsStringExt};
 use std::os::unix::fs::{FileTypeExt, MetadataExt, OpenOptionsExt, PermissionsExt, fchown};
@@ -90,10 +90,11 @@ pub struct Held {
     path: PathBuf,
     /// As the file was when it was read.
     metadata: Metadata,
+    pub source: Vec<u8>,
 }
 
 /// Takes hold of a file that can be edited, and reads it.
-pub fn hold(name: &Path) -> Result<(Held, Vec<u8>), Stop> {
+pub fn hold(name: &Path) -> Result<Held, Stop> {
     loop {
         let path = fs::canonicalize(name).map_err(|error| Stop::system(name, &error))?;
         let file = lock(open(&path, name, true)?, name)?;
@@ -108,7 +109,7 @@ pub fn hold(name: &Path) -> Result<(Held, Vec<u8>), Stop> {
             return Err(Stop::refused(format!("{}: the file has {names} (hard links), which an edit would not reach", name.display())));
         }
         let source = read_all(&file).map_err(|error| Stop::system(name, &error))?;
-        return Ok((Held { locked: file, path, metadata }, source));
+        return Ok(Held { locked: file, path, metadata, source });
     }
 }
 
@@ -229,11 +230,14 @@ impl Held {
         }
     }
 
-    /// Programs that know nothing of the lock may have changed the file or put another in its place.
+    /// Programs that know nothing of the lock may have changed the file or put another in its place. Its bytes are read again too, since
+    /// the clock of many file systems takes two changes within some milliseconds for one.
     fn look_again(&self, name: &Path) -> Result<(), Stop> {
         let state = |m: &Metadata| (m.len(), m.mtime(), m.mtime_nsec(), m.ctime(), m.ctime_nsec());
+        let mut locked = &self.locked;
+        let source = locked.rewind().and_then(|()| read_all(locked)).map_err(|error| Stop::system(name, &error))?;
         match fs::symlink_metadata(&self.path) {
-            Ok(now) if is_same(&now, &self.metadata) && state(&now) == state(&self.metadata) => Ok(()),
+            Ok(now) if is_same(&now, &self.metadata) && state(&now) == state(&self.metadata) && source == self.source => Ok(()),
             Ok(_) => Err(Stop::failed(format!(
                 "{}: another program has changed the file meanwhile; nothing was edited; try again",
                 name.display()

@@ -24,7 +24,7 @@ fn order<'a>(log: &'a [String], path: &Path, length: usize) -> Result<&'a str, S
     let (lock, open, close, rename) = (one("flock file")?, one("open new")?, one("close new")?, one("rename")?);
     let (flush, folder_flush) = (one("fsync new")?, one("fsync folder")?);
     let (reads, writes) = (all("read file"), all("write new"));
-    holds(reads.iter().all(|read| lock < *read && *read < open) && !reads.is_empty(), "the file is not read under the lock")?;
+    holds(reads.iter().all(|read| lock < *read && *read < rename) && !reads.is_empty(), "the file is not read under the lock")?;
     holds(all("close file").iter().all(|close| rename < *close), "the file is let go before the rename")?;
     let new = log[open].strip_prefix("open new 600 ").ok_or("the new file is not for its owner alone")?;
     holds(Path::new(new).parent() == path.parent(), "the new file is in another folder")?;
@@ -211,6 +211,11 @@ fn a_call_that_fails_leaves_the_file_as_it_was_and_no_second_one() {
     failing(&room, &calls, EDIT, &full).is(2, "", "marker: f: No space left on device\n");
     assert_eq!(calls.log().iter().filter(|line| *line == "write new 1").count(), 3);
     room.has_only_f("nop\nret\n", "a disk that runs full");
+    // The file cannot be looked at again.
+    let again = [("CALLS_FAIL", "read file"), ("CALLS_FROM", "2")];
+    failing(&room, &calls, EDIT, &again).is(2, "", "marker: f: Input/output error\n");
+    assert!(calls.log().contains(&"close new".to_string()), "{:#?}", calls.log());
+    room.has_only_f("nop\nret\n", "a second look that fails");
     // The read fails behind the first byte: that is no end.
     let read = [("CALLS_FAIL", "read file"), ("CALLS_FROM", "1"), ("CALLS_SHORT", "1")];
     failing(&room, &calls, EDIT, &read).is(2, "", "marker: f: Input/output error\n");

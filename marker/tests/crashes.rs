@@ -375,6 +375,27 @@ fn what_another_program_does_to_the_file_meanwhile_is_seen_and_kept() {
 }
 
 #[test]
+fn a_change_that_the_clock_is_too_coarse_for_is_seen() {
+    let (room, calls) = (Room::new("coarse"), Calls::new("coarse"));
+    let variables = [("CALLS_PAUSE", "close new"), ("CALLS_COARSE", "1")];
+    for (new, is_changed) in [("cli\nsti\n", true), ("nop\nret\n", false)] {
+        room.put("f", "nop\nret\n");
+        let mut child = start(&room, &calls, &["edit", "f", "2", "hlt"], &variables);
+        calls.wait_for_pause(&mut child);
+        room.put("f", new);
+        calls.go_on();
+        let said = ended(child, SOON);
+        if is_changed {
+            said.is(2, "", "marker: f: another program has changed the file meanwhile; nothing was edited; try again\n");
+            room.has_only_f(new, "changed");
+        } else {
+            // The times are the same by the shim, and so are the bytes: this shows that the bytes are what is seen above.
+            said.is(0, "f: line 2 replaced\n", "");
+        }
+    }
+}
+
+#[test]
 fn a_link_in_the_files_place_is_not_followed_and_not_replaced() {
     let (room, calls) = (Room::new("swapped"), Calls::new("swapped"));
     room.put("f", "nop\nret\n");
