@@ -413,6 +413,12 @@ fn of_a_long_line_the_part_round_the_place_is_shown() {
         assert!(part.len() <= 100 && part.len() >= 50, "{} bytes are shown", part.len());
         assert!((begin..=end).contains(&place.start));
         assert_eq!(carets.len(), place.end.min(end).saturating_sub(place.start).max(1));
+        // Every command says it alike.
+        let report = lines[..3].join("\n") + "\n";
+        assert_eq!(room.run(["list", "f"]).err, report);
+        room.put("f", "");
+        room.run(["edit", "f", "1", &line]).is(1, "", &(report + "f: not edited\n"));
+        room.has_only_f("", "refused");
     }
 }
 
