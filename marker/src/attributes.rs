@@ -13,6 +13,7 @@ mod system {
         fn flistxattr(fd: c_int, list: *mut c_char, size: usize) -> isize;
         fn fgetxattr(fd: c_int, name: *const c_char, value: *mut c_void, size: usize) -> isize;
         fn fsetxattr(fd: c_int, name: *const c_char, value: *const c_void, size: usize, flags: c_int) -> c_int;
+        fn fremovexattr(fd: c_int, name: *const c_char) -> c_int;
     }
 
     /// The most bytes that Linux gives as a list of names or as a value.
@@ -43,20 +44,39 @@ mod system {
             _ => Err(io::Error::last_os_error()),
         }
     }
+
+    pub fn remove(file: &File, name: &CStr) -> io::Result<()> {
+        // SAFETY: the name ends in a zero byte.
+        match unsafe { fremovexattr(file.as_raw_fd(), name.as_ptr()) } {
+            0 => Ok(()),
+            _ => Err(io::Error::last_os_error()),
+        }
+    }
 }
 
-/// Gives a new file the attributes of an old one. Where the file system has none, there is nothing to do.
+#[cfg(target_os = "linux")]
+fn each(names: &[u8]) -> impl Iterator<Item = &std::ffi::CStr> {
+    names.split_inclusive(|byte| *byte == 0).filter_map(|name| std::ffi::CStr::from_bytes_with_nul(name).ok())
+}
+
+/// Gives a new file the attributes of an old one, and no others. Where the file system has none, there is nothing to do.
 #[cfg(target_os = "linux")]
 pub fn copy(old: &File, new: &File) -> io::Result<()> {
+    // The system's own labels are its to give: it has given the new file one.
+    let is_label = |name: &std::ffi::CStr| name.to_bytes().starts_with(b"security.");
     let names = match system::names(old) {
         Err(error) if error.kind() == io::ErrorKind::Unsupported => return Ok(()),
         names => names?,
     };
-    for name in names.split_inclusive(|byte| *byte == 0) {
-        let name = std::ffi::CStr::from_bytes_with_nul(name).map_err(io::Error::other)?;
+    // A folder may give an access control list to each new file in it.
+    for name in each(&system::names(new)?) {
+        if !is_label(name) && each(&names).all(|kept| kept != name) {
+            system::remove(new, name)?;
+        }
+    }
+    for name in each(&names) {
         let copied = system::get(old, name).and_then(|value| system::set(new, name, &value));
-        // The system's own labels are its to give: it has given the new file one.
-        if !name.to_bytes().starts_with(b"security.") {
+        if !is_label(name) {
             copied?;
         }
     }

@@ -12,10 +12,14 @@ pub fn edit(name: &OsStr, line: usize, text: &[u8], force: bool) -> Result<Statu
         return Ok(Status::Done);
     }
     let path = Path::new(name);
-    let (held, old) = files::hold(path)?;
-    let source = edited(&said, &old, line, text)?;
+    let held = files::hold(path)?;
+    let source = edited(&said, &held.source, line, text)?;
     held.replace(path, &source, force)?;
-    print(format!("{said}: line {line} replaced\n"))?;
+    // It is done, whether or not that can be said where it should.
+    print(format!("{said}: line {line} replaced\n")).map_err(|stop| match stop.message.as_str() {
+        "" => stop,
+        why => Stop::failed(format!("{why}; {said}: line {line} is replaced")),
+    })?;
     Ok(Status::Done)
 }
 
@@ -27,7 +31,7 @@ fn edited(name: &str, old: &[u8], line: usize, text: &[u8]) -> Result<Vec<u8>, S
     let Some(place) = report::line_start(old, line) else {
         let count = report::count_lines(old);
         let lines = if count == 1 { "1 line".to_string() } else { format!("{count} lines") };
-        return Err(Stop::refused(format!("{name}: not edited: there is no line {line}: the file has {lines}")));
+        return Err(Stop::refused(format!("{name}: not edited: there is no such line: the file has {lines}")));
     };
     // The CR in front of a line feed belongs to the line's end in a person's eyes, and to the line in the rules.
     let replaced = report::line_at(old, place);

@@ -6,8 +6,8 @@ use std::collections::hash_map::RandomState;
 use std::ffi::{OsStr, OsString, c_int};
 use std::fs::{self, DirEntry, File, FileType, Metadata, Permissions, TryLockError};
 use std::hash::{BuildHasher, Hasher};
-use std::io::{self, Read, Write};
-use std::os::fd::IntoRawFd;
+use std::io::{self, Read, Seek, Write};
+use std::os::fd::{AsFd, IntoRawFd};
 use std::os::unix::ffi::{OsStrExt, OsStringExt};
 use std::os::unix::fs::{FileTypeExt, MetadataExt, OpenOptionsExt, PermissionsExt, fchown};
 use std::path::{Path, PathBuf};
@@ -39,8 +39,10 @@ fn read_all(from: impl Read) -> io::Result<Vec<u8>> {
     Ok(source)
 }
 
+/// Not through `Stdin`, which takes an input that is not open for reading for an empty one.
 pub fn standard_input() -> Result<Vec<u8>, Stop> {
-    read_all(io::stdin().lock()).map_err(|error| Stop::failed(format!("standard input: {}", reason(&error))))
+    let input = io::stdin().as_fd().try_clone_to_owned();
+    input.and_then(|input| read_all(File::from(input))).map_err(|error| Stop::failed(format!("standard input: {}", reason(&error))))
 }
 
 /// The bytes of a file, or of standard input for `-`.
@@ -88,10 +90,11 @@ pub struct Held {
     path: PathBuf,
     /// As the file was when it was read.
     metadata: Metadata,
+    pub source: Vec<u8>,
 }
 
 /// Takes hold of a file that can be edited, and reads it.
-pub fn hold(name: &Path) -> Result<(Held, Vec<u8>), Stop> {
+pub fn hold(name: &Path) -> Result<Held, Stop> {
     loop {
         let path = fs::canonicalize(name).map_err(|error| Stop::system(name, &error))?;
         let file = lock(open(&path, name, true)?, name)?;
@@ -106,7 +109,7 @@ pub fn hold(name: &Path) -> Result<(Held, Vec<u8>), Stop> {
             return Err(Stop::refused(format!("{}: the file has {names} (hard links), which an edit would not reach", name.display())));
         }
         let source = read_all(&file).map_err(|error| Stop::system(name, &error))?;
-        return Ok((Held { locked: file, path, metadata }, source));
+        return Ok(Held { locked: file, path, metadata, source });
     }
 }
 
@@ -168,17 +171,19 @@ impl Held {
         let mut new = New { path, renamed: false };
         let is_owner_kept = self.keep_owner(name, &file, force)?;
         file.write_all(bytes).map_err(no)?;
-        // Behind the owner, since a change of owner takes bits away; and another owner's file gives nobody its owner's rights.
+        self.keep_attributes(name, &file, force)?;
+        // Last, since a change of owner takes bits away, and since a list that the folder has given to the file is shut until here; and
+        // another owner's file gives nobody its owner's rights.
         let mode = self.metadata.mode() & if is_owner_kept { 0o7777 } else { 0o777 };
         file.set_permissions(Permissions::from_mode(mode)).map_err(no)?;
-        self.keep_attributes(name, &file, force)?;
         file.sync_all().map_err(no)?;
         // Its answer counts, and dropping the file would not give it.
         if close(file.into_raw_fd()) < 0 {
             return Err(no(io::Error::last_os_error()));
         }
         self.look_again(name)?;
-        fs::rename(&new.path, &self.path).map_err(no)?;
+        fs::rename(&new.path, &self.path)
+            .map_err(|error| Stop::failed(format!("{}: the new file cannot take its place: {}", name.display(), reason(&error))))?;
         new.renamed = true;
         opened_folder.sync_all().map_err(|error| {
             Stop::failed(format!(
@@ -225,11 +230,14 @@ impl Held {
         }
     }
 
-    /// Programs that know nothing of the lock may have changed the file or put another in its place.
+    /// Programs that know nothing of the lock may have changed the file or put another in its place. Its bytes are read again too, since
+    /// the clock of many file systems takes two changes within some milliseconds for one.
     fn look_again(&self, name: &Path) -> Result<(), Stop> {
         let state = |m: &Metadata| (m.len(), m.mtime(), m.mtime_nsec(), m.ctime(), m.ctime_nsec());
+        let mut locked = &self.locked;
+        let source = locked.rewind().and_then(|()| read_all(locked)).map_err(|error| Stop::system(name, &error))?;
         match fs::symlink_metadata(&self.path) {
-            Ok(now) if is_same(&now, &self.metadata) && state(&now) == state(&self.metadata) => Ok(()),
+            Ok(now) if is_same(&now, &self.metadata) && state(&now) == state(&self.metadata) && source == self.source => Ok(()),
             Ok(_) => Err(Stop::failed(format!(
                 "{}: another program has changed the file meanwhile; nothing was edited; try again",
                 name.display()
@@ -255,10 +263,10 @@ fn new_name(base: &OsStr) -> OsString {
     OsString::from_vec([&head, format!("{:016x}{:016x}", random(), random()).as_bytes(), tail].concat())
 }
 
-/// Removes new files that an edit of this file left behind when it was cut off. The file is held, so no edit has one in use; but a name that is
-/// cut may be another file's too.
+/// Removes new files that an edit of this file left behind when it was cut off. The file is held, so no edit has one in use; but a name as
+/// long as those that are cut may be another file's too.
 fn remove_leftovers(folder: &Path, base: &OsStr) {
-    if base.len() > BASE {
+    if base.len() >= BASE {
         return;
     }
     let (head, tail) = parts(base);
