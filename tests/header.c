@@ -276,6 +276,7 @@ static void value(uint8_t operator_number, int32_t a, int32_t b, uint32_t number
 }
 
 static void values(void) {
+    int none;
     value(0, 2, -5, 0, -3);
     value(1, 2, -5, 0, 7);
     value(2, -46341, 46340, 0, -2147441940);
@@ -286,7 +287,7 @@ static void values(void) {
     value(2, 65536, 32768, 50, 0);
     value(3, INT32_MIN, -1, 50, 0);
     value(3, 1, 0, 51, 0);
-    value(4, 1, 1, 255, 0);
+    for (none = 4; none < 256; none++) value((uint8_t)none, 1, 1, 255, 0);
 }
 
 static void word(const char *text, uint8_t operation, uint16_t name, uint8_t directive) {
