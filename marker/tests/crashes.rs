@@ -200,6 +200,50 @@ fn next_edit_works_in(room: &Room) {
 }
 
 #[test]
+fn eight_editors_that_are_killed_at_random_moments_lose_nothing() {
+    let room = Room::new("eight-killed");
+    room.put("f", (0..8).map(|n| format!("k{n} equ 0\n")).collect::<String>());
+    let line = |n: usize| String::from_utf8(room.get("f")).unwrap().lines().nth(n).unwrap().to_string();
+    let (landed, begun) = (AtomicUsize::new(0), AtomicUsize::new(0));
+    let editor = |n: usize| {
+        let (mut last, mut kills, mut delay) = (format!("k{n} equ 0"), 0, 20_000);
+        for value in 1.. {
+            if kills == 12 {
+                break;
+            }
+            assert!(value < 1_000, "only {kills} of {value} kills came while the program ran");
+            let new = format!("k{n} equ {value}");
+            let mut command = room.marker(["edit", "f", &(n + 1).to_string(), &new]);
+            let child = command.stdin(Stdio::null()).stdout(Stdio::piped()).stderr(Stdio::piped()).spawn().unwrap();
+            thread::sleep(Duration::from_micros(random(delay) as u64));
+            let said = killed(child);
+            let now = line(n);
+            begun.fetch_add(1, Ordering::Relaxed);
+            if said.signal == KILL {
+                kills += 1;
+                delay += delay / 10;
+                assert!(now == last || now == new, "{now}, and neither {last} nor {new}");
+            } else {
+                said.is(0, &format!("f: line {} replaced\n", n + 1), "");
+                delay -= delay / 20;
+                assert_eq!(now, new, "an edit is lost");
+            }
+            last = now;
+        }
+        landed.fetch_add(kills, Ordering::Relaxed);
+        last
+    };
+    let editor = &editor;
+    let lasts: Vec<String> = thread::scope(|scope| {
+        let editors: Vec<_> = (0..8).map(|n| scope.spawn(move || editor(n))).collect();
+        editors.into_iter().map(|editor| editor.join().unwrap()).collect()
+    });
+    assert_eq!(String::from_utf8(room.get("f")).unwrap().lines().collect::<Vec<_>>(), lasts);
+    notice(&format!("{} kills of {} edits, eight at once", landed.into_inner(), begun.into_inner()));
+    next_edit_works_in(&room);
+}
+
+#[test]
 fn a_new_file_that_somebody_removes_is_said_and_the_next_edit_works() {
     let (room, calls) = (Room::new("removed"), Calls::new("removed"));
     for call in ["write new", "fsync new", "close new", "rename"] {
