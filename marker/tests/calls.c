@@ -1,5 +1,5 @@
-/* Preloaded before `marker`: writes down its calls on files in the file that CALLS_LOG names, in their order, a line each: the call, what it
-   is on, and more. A file made by O_EXCL is `new`, a folder is `folder`, any other is `file`; descriptors 0 to 2 are left alone.
+/* Preloaded before `marker`: writes down its calls on files in the file that CALLS_LOG names, in their order, a line each: the call, what
+   it is on, and more. A file made by O_EXCL is `new`, a folder is `folder`, any other is `file`; descriptors 0 to 2 are left alone.
      CALLS_FAIL=`fsync new`     this call fails, with the errno CALLS_ERRNO (a number; EIO without it)
      CALLS_FROM=3               but not before it has been done three times
      CALLS_TIMES=1              and only once

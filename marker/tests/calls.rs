@@ -9,8 +9,8 @@ use std::path::Path;
 use std::process::{Command, Stdio};
 
 /// Whether these are the calls of an edit that neither a crash nor a power failure can tear: the file is locked before it is read; the new
-/// one is made beside it for this edit alone, gets all that it has, is flushed, closed, and then renamed, and the folder is flushed. Gives the
-/// new file's name.
+/// one is made beside it for this edit alone, gets all that it has, is flushed, closed, and then renamed, and the folder is flushed.
+/// Gives the new file's name.
 fn order<'a>(log: &'a [String], path: &Path, length: usize) -> Result<&'a str, String> {
     let all = |call: &str| -> Vec<usize> {
         let is_call = |line: &str| line.strip_prefix(call).is_some_and(|rest| rest.is_empty() || rest.starts_with(' '));
@@ -245,7 +245,8 @@ fn a_folder_that_cannot_be_flushed_is_said_though_the_line_is_replaced() {
     failing(&room, &calls, EDIT, &[("CALLS_FAIL", "fsync folder")]).is(
         2,
         "",
-        "marker: f: the line is replaced, but the folder could not be flushed (Input/output error): if the power fails now, the edit may be lost\n",
+        "marker: f: the line is replaced, but the folder could not be flushed (Input/output error): \
+         if the power fails now, the edit may be lost\n",
     );
     room.has_only_f("nop\nk equ 2\n", "the folder's flush");
 }

@@ -114,8 +114,8 @@ fn a_hundred_kills_at_random_moments_leave_the_old_file_or_the_new_one() {
     notice(&format!("{landed} kills of {begun} edits: {before} before the new file, {middle} beside it, {done} behind the rename"));
 }
 
-/// Eight editors at once, each of its own line, so many times: each edit that is said to be done is there, at once and at the end. Gives how
-/// many edits were done, and how many were not; those said why.
+/// Eight editors at once, each of its own line, so many times: each edit that is said to be done is there, at once and at the end.
+/// Gives how many edits were done, and how many were not; those said why.
 fn eight_editors(room: &Room, times: usize, meanwhile: impl Fn() + Sync) -> (usize, usize) {
     let rows = |values: &[usize]| values.iter().enumerate().map(|(n, value)| format!("k{n} equ {value}\n")).collect::<String>();
     room.put("f", rows(&[0; 8]));
