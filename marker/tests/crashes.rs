@@ -419,6 +419,19 @@ fn what_another_program_does_to_the_file_meanwhile_is_seen_and_kept() {
 }
 
 #[test]
+fn a_file_that_is_replaced_without_end_is_said() {
+    let (room, calls) = (Room::new("again"), Calls::new("again"));
+    room.put("f", "nop\nret\n");
+    run(calls.on(&mut room.marker(["edit", "f", "2", "hlt"]), &[("CALLS_OTHER", "1")]), b"").is(
+        2,
+        "",
+        "marker: f: another file is put in its place again and again; nothing was edited; try again\n",
+    );
+    room.has_only_f("nop\nret\n", "replaced without end");
+    assert!(calls.log().iter().filter(|line| *line == "flock file").count() > 100, "it has been tried again");
+}
+
+#[test]
 fn a_change_that_the_clock_is_too_coarse_for_is_seen() {
     let (room, calls) = (Room::new("coarse"), Calls::new("coarse"));
     let variables = [("CALLS_PAUSE", "close new"), ("CALLS_COARSE", "1")];
