@@ -18,6 +18,9 @@ use std::time::Duration;
 /// How long an edit waits for another one of the same file. An edit takes some milliseconds.
 const WAIT: Duration = Duration::from_secs(10);
 
+/// How often a file is taken hold of, when each time another one is in its place by then. Each time some other edit is done.
+const TRIES: usize = 1_000;
+
 /// Linux's, where it has the usual value: a FIFO that takes a file's place between two looks does not hold an open up.
 const NONBLOCK: c_int = if cfg!(all(
     target_os = "linux",
@@ -95,7 +98,7 @@ pub struct Held {
 
 /// Takes hold of a file that can be edited, and reads it.
 pub fn hold(name: &Path) -> Result<Held, Stop> {
-    loop {
+    for _ in 0..TRIES {
         let path = fs::canonicalize(name).map_err(|error| Stop::system(name, &error))?;
         let file = lock(open(&path, name, true)?, name)?;
         let metadata = file.metadata().map_err(|error| Stop::system(name, &error))?;
@@ -111,6 +114,7 @@ pub fn hold(name: &Path) -> Result<Held, Stop> {
         let source = read_all(&file).map_err(|error| Stop::system(name, &error))?;
         return Ok(Held { locked: file, path, metadata, source });
     }
+    Err(Stop::failed(format!("{}: another file is put in its place again and again; nothing was edited; try again", name.display())))
 }
 
 fn is_same(a: &Metadata, b: &Metadata) -> bool {

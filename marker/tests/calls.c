@@ -1,5 +1,5 @@
-/* Preloaded before `marker`: writes down its calls on files in the file that CALLS_LOG names, in their order, a line each: the call, what it
-   is on, and more. A file made by O_EXCL is `new`, a folder is `folder`, any other is `file`; descriptors 0 to 2 are left alone.
+/* Preloaded before `marker`: writes down its calls on files in the file that CALLS_LOG names, in their order, a line each: the call, what
+   it is on, and more. A file made by O_EXCL is `new`, a folder is `folder`, any other is `file`; descriptors 0 to 2 are left alone.
      CALLS_FAIL=`fsync new`     this call fails, with the errno CALLS_ERRNO (a number; EIO without it)
      CALLS_FROM=3               but not before it has been done three times
      CALLS_TIMES=1              and only once
@@ -7,6 +7,7 @@
      CALLS_NOTHING=1            each write moves nothing, and says so
      CALLS_SHORT=1              each read and write moves one byte
      CALLS_COARSE=1             all times of files are the same, as within one tick of a coarse clock
+     CALLS_OTHER=1              what stands at a path is never the file that was opened there
      CALLS_SLOW=500             each call comes so many microseconds later
      CALLS_PAUSE=`close new`    before this call the file that CALLS_PAUSED names is made, and the call waits until it is gone */
 #define _GNU_SOURCE
@@ -177,6 +178,7 @@ int statx(int at, const char *restrict path, int flags, unsigned mask, struct st
         memset(&there->stx_mtime, 0, sizeof there->stx_mtime);
         memset(&there->stx_ctime, 0, sizeof there->stx_ctime);
     }
+    if (said == 0 && path[0] != 0 && getenv("CALLS_OTHER")) there->stx_ino++;
     return (int)said;
 }
 

@@ -114,8 +114,8 @@ fn a_hundred_kills_at_random_moments_leave_the_old_file_or_the_new_one() {
     notice(&format!("{landed} kills of {begun} edits: {before} before the new file, {middle} beside it, {done} behind the rename"));
 }
 
-/// Eight editors at once, each of its own line, so many times: each edit that is said to be done is there, at once and at the end. Gives how
-/// many edits were done, and how many were not; those said why.
+/// Eight editors at once, each of its own line, so many times: each edit that is said to be done is there, at once and at the end.
+/// Gives how many edits were done, and how many were not; those said why.
 fn eight_editors(room: &Room, times: usize, meanwhile: impl Fn() + Sync) -> (usize, usize) {
     let rows = |values: &[usize]| values.iter().enumerate().map(|(n, value)| format!("k{n} equ {value}\n")).collect::<String>();
     room.put("f", rows(&[0; 8]));
@@ -197,6 +197,50 @@ fn next_edit_works_in(room: &Room) {
     room.run(["edit", "f", "1", "nop"]).is(0, "f: line 1 replaced\n", "");
     assert!(room.get("f").starts_with(b"nop\n"));
     assert_eq!(room.names(), ["f"]);
+}
+
+#[test]
+fn eight_editors_that_are_killed_at_random_moments_lose_nothing() {
+    let room = Room::new("eight-killed");
+    room.put("f", (0..8).map(|n| format!("k{n} equ 0\n")).collect::<String>());
+    let line = |n: usize| String::from_utf8(room.get("f")).unwrap().lines().nth(n).unwrap().to_string();
+    let (landed, begun) = (AtomicUsize::new(0), AtomicUsize::new(0));
+    let editor = |n: usize| {
+        let (mut last, mut kills, mut delay) = (format!("k{n} equ 0"), 0, 20_000);
+        for value in 1.. {
+            if kills == 12 {
+                break;
+            }
+            assert!(value < 1_000, "only {kills} of {value} kills came while the program ran");
+            let new = format!("k{n} equ {value}");
+            let mut command = room.marker(["edit", "f", &(n + 1).to_string(), &new]);
+            let child = command.stdin(Stdio::null()).stdout(Stdio::piped()).stderr(Stdio::piped()).spawn().unwrap();
+            thread::sleep(Duration::from_micros(random(delay) as u64));
+            let said = killed(child);
+            let now = line(n);
+            begun.fetch_add(1, Ordering::Relaxed);
+            if said.signal == KILL {
+                kills += 1;
+                delay += delay / 10;
+                assert!(now == last || now == new, "{now}, and neither {last} nor {new}");
+            } else {
+                said.is(0, &format!("f: line {} replaced\n", n + 1), "");
+                delay -= delay / 20;
+                assert_eq!(now, new, "an edit is lost");
+            }
+            last = now;
+        }
+        landed.fetch_add(kills, Ordering::Relaxed);
+        last
+    };
+    let editor = &editor;
+    let lasts: Vec<String> = thread::scope(|scope| {
+        let editors: Vec<_> = (0..8).map(|n| scope.spawn(move || editor(n))).collect();
+        editors.into_iter().map(|editor| editor.join().unwrap()).collect()
+    });
+    assert_eq!(String::from_utf8(room.get("f")).unwrap().lines().collect::<Vec<_>>(), lasts);
+    notice(&format!("{} kills of {} edits, eight at once", landed.into_inner(), begun.into_inner()));
+    next_edit_works_in(&room);
 }
 
 #[test]
@@ -372,6 +416,19 @@ fn what_another_program_does_to_the_file_meanwhile_is_seen_and_kept() {
             }
         }
     }
+}
+
+#[test]
+fn a_file_that_is_replaced_without_end_is_said() {
+    let (room, calls) = (Room::new("again"), Calls::new("again"));
+    room.put("f", "nop\nret\n");
+    run(calls.on(&mut room.marker(["edit", "f", "2", "hlt"]), &[("CALLS_OTHER", "1")]), b"").is(
+        2,
+        "",
+        "marker: f: another file is put in its place again and again; nothing was edited; try again\n",
+    );
+    room.has_only_f("nop\nret\n", "replaced without end");
+    assert!(calls.log().iter().filter(|line| *line == "flock file").count() > 100, "it has been tried again");
 }
 
 #[test]

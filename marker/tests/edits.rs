@@ -132,6 +132,16 @@ fn a_text_may_begin_with_a_dash() {
 }
 
 #[test]
+fn a_text_that_is_no_utf_8_is_refused_where_it_stops_being_ascii() {
+    let room = Room::new("no-utf-8");
+    room.put("f", "nop\n");
+    let text = OsStr::from_bytes(b"a \xff\xfe");
+    let said = "f:1:3: a character that is not ASCII\n    a \u{fffd}\u{fffd}\n      ^\nf: not edited\n";
+    room.run([OsStr::new("edit"), OsStr::new("f"), OsStr::new("1"), text]).is(1, "", said);
+    room.has_only_f("nop\n", "no UTF-8");
+}
+
+#[test]
 fn a_line_number_may_have_zeros_in_front() {
     let room = Room::new("zeros");
     room.put("f", "nop\nret\n");

@@ -128,7 +128,7 @@ fn is_refused(room: &Room, name: &str, what: &str) {
         let child = room.marker(words).stdin(Stdio::null()).stdout(Stdio::piped()).stderr(Stdio::piped()).spawn().unwrap();
         let who = if status == 2 { "marker: " } else { "" };
         let out = if words[0] == "check" { "0 files checked, none refused, 1 not read\n" } else { "" };
-        ended(child, Duration::from_secs(5)).is(status, out, &format!("{who}{name}: this is {what}, and no regular file\n"));
+        ended(child, Duration::from_secs(20)).is(status, out, &format!("{who}{name}: this is {what}, and no regular file\n"));
         assert_eq!(room.names(), before);
     }
 }
@@ -286,21 +286,30 @@ fn a_users_own_file_is_edited_without_force() {
 #[test]
 fn a_file_that_the_user_may_not_write_or_read_is_left_even_by_force() {
     let room = Room::new("may-not");
-    if !has_nobody(&room, "a_file_that_the_user_may_not_write_or_read_is_left_even_by_force") {
+    // Without root, the tests' own user is the one that may not, and there are no other owners.
+    let is_root = is_root("a_file_that_the_user_may_not_write_or_read_is_left_even_by_force, of other owners");
+    if is_root && !has_nobody(&room, "a_file_that_the_user_may_not_write_or_read_is_left_even_by_force") {
         return;
     }
     set_mode(&room.0, 0o777);
     for (user, wanted) in [(0, 0o444), (0, 0o644), (0, 0o600), (NOBODY, 0o444), (NOBODY, 0o200), (NOBODY, 0o066), (0, 0o662)] {
+        if user != NOBODY && !is_root {
+            continue;
+        }
         room.put("f", "nop\n");
-        chown(room.path("f"), Some(user), Some(user)).unwrap();
+        if is_root {
+            chown(room.path("f"), Some(user), Some(user)).unwrap();
+        }
         set_mode(&room.path("f"), wanted);
         let before = fs::metadata(room.path("f")).unwrap();
         for words in [&["edit", "f", "1", "ret"][..], &["edit", "--force", "f", "1", "ret"]] {
-            as_nobody(&room, words).is(2, "", "marker: f: Permission denied\n");
+            let said = if is_root { as_nobody(&room, words) } else { room.run(words) };
+            said.is(2, "", "marker: f: Permission denied\n");
         }
         let after = fs::metadata(room.path("f")).unwrap();
-        room.has_only_f("nop\n", "may not");
         assert_eq!((before.ino(), before.mode(), before.ctime_nsec()), (after.ino(), after.mode(), after.ctime_nsec()));
+        set_mode(&room.path("f"), 0o600);
+        room.has_only_f("nop\n", "may not");
         fs::remove_file(room.path("f")).unwrap();
     }
 }
