@@ -175,9 +175,9 @@ fn what_is_no_regular_file_is_not_even_opened() {
     }
 }
 
-/// Runs an edit of line 2 of `nop`, `ret` with a call that fails.
+/// Runs the program with a call that fails.
 fn failing(room: &Room, calls: &Calls, words: &[&str], variables: &[(&str, &str)]) -> Said {
-    run(calls.on(&mut room.marker(words), variables), b"")
+    run(calls.on(&mut room.marker(words), &[variables, &[("CALLS_DRY", "1")]].concat()), b"")
 }
 
 const EDIT: &[&str] = &["edit", "f", "2", "k equ 2"];

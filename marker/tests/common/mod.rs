@@ -1,9 +1,10 @@
 //! What the tests share: folders of their own on a real disk, the program with a limit of time, and the preloaded shim.
 #![allow(dead_code)] // each test file uses a part of it
 use std::ffi::{CString, OsStr, OsString, c_char, c_int, c_void};
-use std::fs;
+use std::fs::{self, Permissions};
 use std::io::{self, Read, Write};
 use std::os::unix::ffi::OsStrExt;
+use std::os::unix::fs::PermissionsExt;
 use std::os::unix::process::{CommandExt, ExitStatusExt};
 use std::path::{Path, PathBuf};
 use std::process::{Child, Command, Stdio};
@@ -22,6 +23,8 @@ pub struct Room(pub PathBuf);
 impl Room {
     pub fn new(name: &str) -> Self {
         let path = Path::new(env!("CARGO_TARGET_TMPDIR")).join(format!("{name}-{}", std::process::id()));
+        // One that was cut off may have left its own.
+        let _ = fs::remove_dir_all(&path);
         fs::create_dir(&path).unwrap_or_else(|error| panic!("{}: {error}", path.display()));
         Self(path)
     }
@@ -167,6 +170,7 @@ pub fn has_nobody(room: &Room, test: &str) -> bool {
     if !is_root(test) {
         return false;
     }
+    fs::set_permissions(&room.0, Permissions::from_mode(0o755)).unwrap();
     let mut command = room.marker(["--version"]);
     let can = command.uid(NOBODY).gid(NOBODY).stdout(Stdio::null()).status().is_ok_and(|status| status.success());
     if !can {
