@@ -1,7 +1,7 @@
 /* How much stack each function of the library touches. Each call runs on a stack of its own that held a pattern before; the deepest byte
    that has changed counts, from where the call is made. The inputs go to the limits: the longest sources, 16 `times` with an operand in the
    innermost whose expression is 32 deep, lines that the patch reads alone. Prints for each constant of the header the most that its functions
-   have touched; ends with status 1 where that is more than the constant, or where an answer shows that an input missed its limit. */
+   have touched; ends with status 1 where less than a fifth of it is to spare, or where an answer shows that an input missed its limit. */
 #define _XOPEN_SOURCE 700
 #include "laqhoncu.h"
 #include <stdio.h>
@@ -286,8 +286,9 @@ int main(void) {
     patches();
     for (i = 0; i < 4; i++) {
         printf("%s%s %lu of %lu", i ? ", " : "", said[i].title, (unsigned long)most[i], (unsigned long)said[i].constant);
-        over |= most[i] > said[i].constant;
+        /* The header says that a fifth of it is to spare. */
+        over |= most[i] > said[i].constant - said[i].constant / 5;
     }
-    printf(over ? " bytes: more than the header says\n" : " bytes\n");
+    printf(over ? " bytes: less is to spare than the header says\n" : " bytes\n");
     return over;
 }

@@ -9,8 +9,9 @@ const ARCHIVE: &str = "liblaqhoncu.a";
 fn main() {
     println!("cargo::rerun-if-env-changed=LAQHONCU_LIBRARY");
     let here = PathBuf::from(env::var_os("CARGO_MANIFEST_DIR").expect("cargo says where the package is"));
-    let folders = match env::var_os("LAQHONCU_LIBRARY") {
-        Some(folder) => vec![PathBuf::from(folder)],
+    let folders = match env::var_os("LAQHONCU_LIBRARY").filter(|folder| !folder.is_empty()) {
+        // A build script runs in the package's folder, so that is where a relative one counts from.
+        Some(folder) => vec![here.join(folder)],
         // The repository's root is two folders up, the prefix three.
         None => vec![here.join("../../target/staticlib"), here.join("../../../lib")],
     };

@@ -44,15 +44,16 @@ const EDIT_HELP: &str = "\
 marker edit [--force] FILE LINE TEXT
 
 Exchanges one line of a marker file for a text. The file is replaced at once by its
-edited form, or left as it was: where the edit is refused, the words say why.
+edited form, or left as it was: where the edit is refused, the words say why. A file
+that is refused itself is to be mended in an editor first.
 
   FILE       a marker file; `-` reads standard input and writes the edited form to
              standard output
   LINE       the number of the line, from 1 on; behind a final line feed stands one
              more line, which is empty
   TEXT       the new line, without a line feed; one argument, so mostly in quotes
-  --force    edit a file though its owner, its group, or its access control list
-             cannot be kept: the file is yours then
+  --force    edit a file though its owner, its group, or an extended attribute such as
+             its access control list cannot be kept; what is not kept is said
 
 A symbolic link stays, and the file that it names is edited. Mode, owner and extended
 attributes are kept. Where the old line ends in CR, so does the new one. Not edited are

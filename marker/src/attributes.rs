@@ -91,6 +91,7 @@ pub fn copy(_old: &File, _new: &File) -> io::Result<()> {
 #[cfg(all(test, target_os = "linux"))]
 mod tests {
     use super::*;
+    use std::io::Write;
 
     #[test]
     fn copied() {
@@ -99,7 +100,7 @@ mod tests {
         let (old, new) = (File::create(folder.join("old")).unwrap(), File::create(folder.join("new")).unwrap());
         let set = system::set(&old, c"user.crew", b"north").and_then(|()| system::set(&old, c"user.none", b""));
         if set.as_ref().is_err_and(|error| error.kind() == io::ErrorKind::Unsupported) {
-            println!("the file system of {} has no attributes", folder.display());
+            let _ = writeln!(io::stderr(), "    copied: skipped, since the file system of {} has no attributes", folder.display());
         } else {
             set.unwrap();
             copy(&old, &new).unwrap();

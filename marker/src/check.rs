@@ -1,5 +1,5 @@
 //! marker check FILE..
-use crate::outcome::{Status, Stop, complain, print};
+use crate::outcome::{Status, Stop, complain, named, print};
 use crate::{files, report};
 use std::ffi::OsString;
 
@@ -16,7 +16,7 @@ pub fn check(names: &[OsString]) -> Result<Status, Stop> {
         };
         checked += 1;
         if let Err(refusal) = laqhoncu::listing(&source) {
-            print(report::refusal(&name.to_string_lossy(), &source, 1, &refusal))?;
+            print(report::refusal(&named(name), &source, 1, &refusal))?;
             refused += 1;
             status = status.max(Status::Refused);
         }

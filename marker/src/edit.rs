@@ -1,12 +1,12 @@
 //! marker edit FILE LINE TEXT
-use crate::outcome::{Status, Stop, print};
+use crate::outcome::{Status, Stop, announce, named, print, warn};
 use crate::{files, report};
 use laqhoncu::{LISTING_FACTOR, Refusal, SOURCE_MAX, listing, patch, refusals};
 use std::ffi::OsStr;
 use std::path::Path;
 
 pub fn edit(name: &OsStr, line: usize, text: &[u8], force: bool) -> Result<Status, Stop> {
-    let said = name.to_string_lossy();
+    let said = named(name);
     if name == "-" {
         print(edited(&said, &files::standard_input()?, line, text)?)?;
         return Ok(Status::Done);
@@ -14,19 +14,21 @@ pub fn edit(name: &OsStr, line: usize, text: &[u8], force: bool) -> Result<Statu
     let path = Path::new(name);
     let held = files::hold(path)?;
     let source = edited(&said, &held.source, line, text)?;
-    held.replace(path, &source, force)?;
-    // It is done, whether or not that can be said where it should.
-    print(format!("{said}: line {line} replaced\n")).map_err(|stop| match stop.message.as_str() {
-        "" => stop,
-        why => Stop::failed(format!("{why}; {said}: line {line} is replaced")),
-    })?;
+    let lost = held.replace(path, &source, force)?;
+    announce(&format!("{said}: line {line} replaced"));
+    if let Some(lost) = lost {
+        warn(&format!("{said}: not kept: {lost}"));
+    }
     Ok(Status::Done)
 }
 
 /// A source with one line exchanged for a text, by the patch.
 fn edited(name: &str, old: &[u8], line: usize, text: &[u8]) -> Result<Vec<u8>, Stop> {
     let old_listing = listing(old).map_err(|refused| {
-        Stop::refused(format!("{}{name}: not edited: the file itself is refused", report::refusal(name, old, 1, &refused)))
+        Stop::refused(format!(
+            "{}{name}: not edited: the file itself is refused, and is to be mended in an editor first",
+            report::refusal(name, old, 1, &refused)
+        ))
     })?;
     let Some(place) = report::line_start(old, line) else {
         let count = report::count_lines(old);

@@ -1,13 +1,13 @@
 //! Files: a source read whole, and a file replaced by its edited form at once or not at all.
-use crate::attributes;
-use crate::outcome::{Status, Stop, reason};
+use crate::outcome::{Status, Stop, named, reason};
+use crate::{attributes, descriptors};
 use laqhoncu::SOURCE_MAX;
 use std::collections::hash_map::RandomState;
 use std::ffi::{OsStr, OsString, c_int};
 use std::fs::{self, DirEntry, File, FileType, Metadata, Permissions, TryLockError};
 use std::hash::{BuildHasher, Hasher};
-use std::io::{self, Read, Seek, Write};
-use std::os::fd::{AsFd, IntoRawFd};
+use std::io::{self, ErrorKind, Read, Seek, Write};
+use std::os::fd::IntoRawFd;
 use std::os::unix::ffi::{OsStrExt, OsStringExt};
 use std::os::unix::fs::{FileTypeExt, MetadataExt, OpenOptionsExt, PermissionsExt, fchown};
 use std::path::{Path, PathBuf};
@@ -21,18 +21,28 @@ const WAIT: Duration = Duration::from_secs(10);
 /// How often a file is taken hold of, when each time another one is in its place by then. Each time some other edit is done.
 const TRIES: usize = 1_000;
 
-/// Linux's, where it has the usual value: a FIFO that takes a file's place between two looks does not hold an open up.
-const NONBLOCK: c_int = if cfg!(all(
+/// Whether the system's numbers below are the usual ones.
+const IS_USUAL_LINUX: bool = cfg!(all(
     target_os = "linux",
     any(target_arch = "x86_64", target_arch = "x86", target_arch = "aarch64", target_arch = "arm", target_arch = "riscv64")
-)) {
-    0o4000
-} else {
-    0
-};
+));
+
+/// A FIFO that takes a file's place between two looks does not hold an open up.
+const NONBLOCK: c_int = if IS_USUAL_LINUX { 0o4000 } else { 0 };
+const SIGXFSZ: c_int = 25;
+const IGNORE: usize = 1;
 
 unsafe extern "C" {
     safe fn close(fd: c_int) -> c_int;
+    fn signal(number: c_int, handler: usize) -> usize;
+}
+
+/// A limit on the length of files is an answer of `write` from here on, and not the end of the program.
+pub fn outlive_limits() {
+    if IS_USUAL_LINUX {
+        // SAFETY: no handler is installed.
+        unsafe { signal(SIGXFSZ, IGNORE) };
+    }
 }
 
 /// Reads to the end, or so far that the source is too long.
@@ -42,10 +52,9 @@ fn read_all(from: impl Read) -> io::Result<Vec<u8>> {
     Ok(source)
 }
 
-/// Not through `Stdin`, which takes an input that is not open for reading for an empty one.
 pub fn standard_input() -> Result<Vec<u8>, Stop> {
-    let input = io::stdin().as_fd().try_clone_to_owned();
-    input.and_then(|input| read_all(File::from(input))).map_err(|error| Stop::failed(format!("standard input: {}", reason(&error))))
+    let read = descriptors::file(0).and_then(|input| read_all(&*input));
+    read.map_err(|error| Stop::failed(format!("standard input: {}", reason(&error))))
 }
 
 /// The bytes of a file, or of standard input for `-`.
@@ -64,10 +73,16 @@ fn open(path: &Path, name: &Path, write: bool) -> Result<File, Stop> {
     let is_regular = |metadata: io::Result<Metadata>| match metadata {
         Err(error) => Err(Stop::system(name, &error)),
         Ok(metadata) if metadata.is_file() => Ok(()),
-        Ok(metadata) => Err(Stop::refused(format!("{}: this is {}, and no regular file", name.display(), kind(metadata.file_type())))),
+        Ok(metadata) => Err(Stop::refused(format!("{}: this is {}, and no regular file", named(name), kind(metadata.file_type())))),
     };
     is_regular(fs::metadata(path))?;
-    let file = File::options().read(true).write(write).custom_flags(NONBLOCK).open(path).map_err(|error| Stop::system(name, &error))?;
+    let opened = File::options().read(true).write(write).custom_flags(NONBLOCK).open(path);
+    let file = opened.map_err(|error| match error.kind() {
+        ErrorKind::PermissionDenied if write => {
+            Stop::failed(format!("{}: you may not read and write this file: {}", named(name), reason(&error)))
+        }
+        _ => Stop::system(name, &error),
+    })?;
     is_regular(file.metadata())?;
     Ok(file)
 }
@@ -102,28 +117,30 @@ pub fn hold(name: &Path) -> Result<Held, Stop> {
         let path = fs::canonicalize(name).map_err(|error| Stop::system(name, &error))?;
         let file = lock(open(&path, name, true)?, name)?;
         let metadata = file.metadata().map_err(|error| Stop::system(name, &error))?;
-        // Another edit may have put a new file in its place before it let go: then that one is to be held.
-        if !fs::symlink_metadata(&path).is_ok_and(|there| is_same(&there, &metadata)) {
+        // Another edit may have put a new file in its place before it let go, or a link leads elsewhere by now: then that one is to be held.
+        if !leads_to(name, &path, &metadata).unwrap_or(false) {
             continue;
         }
         if metadata.nlink() > 1 {
             let others = metadata.nlink() - 1;
             let names = if others == 1 { "another name".to_string() } else { format!("{others} other names") };
-            return Err(Stop::refused(format!("{}: the file has {names} (hard links), which an edit would not reach", name.display())));
+            return Err(Stop::refused(format!("{}: the file has {names} (hard links), which an edit would not reach", named(name))));
         }
         let source = read_all(&file).map_err(|error| Stop::system(name, &error))?;
         return Ok(Held { locked: file, path, metadata, source });
     }
-    Err(Stop::failed(format!("{}: another file is put in its place again and again; nothing was edited; try again", name.display())))
+    Err(Stop::failed(format!("{}: another file is put in its place again and again; nothing was edited; try again", named(name))))
 }
 
-fn is_same(a: &Metadata, b: &Metadata) -> bool {
-    (a.dev(), a.ino()) == (b.dev(), b.ino())
+/// Whether a name, all links followed, is this path, and this file is there.
+fn leads_to(name: &Path, path: &Path, file: &Metadata) -> io::Result<bool> {
+    let there = fs::symlink_metadata(path)?;
+    Ok(fs::canonicalize(name)? == path && (there.dev(), there.ino()) == (file.dev(), file.ino()))
 }
 
 /// Waits until no other edit holds the file, in a thread, so that the wait can end without it.
 fn lock(file: File, name: &Path) -> Result<File, Stop> {
-    let cannot = |error: &io::Error| Stop::failed(format!("{}: the file cannot be locked: {}", name.display(), reason(error)));
+    let cannot = |error: &io::Error| Stop::failed(format!("{}: the file cannot be locked: {}", named(name), reason(error)));
     match file.try_lock() {
         Ok(()) => return Ok(file),
         Err(TryLockError::Error(error)) => return Err(cannot(&error)),
@@ -136,7 +153,7 @@ fn lock(file: File, name: &Path) -> Result<File, Stop> {
         Ok(Err(error)) => Err(cannot(&error)),
         Err(_) => Err(Stop::failed(format!(
             "{}: another program has held the file for {} seconds; nothing was edited; try again when it has ended",
-            name.display(),
+            named(name),
             WAIT.as_secs()
         ))),
     }
@@ -156,30 +173,38 @@ impl Drop for New {
     }
 }
 
+/// What of the old file the new one has.
+struct Kept {
+    user: bool,
+    group: bool,
+    attributes: bool,
+}
+
 impl Held {
     /// Puts a file with these bytes in the place of the held one: written beside it, flushed, and then renamed, so that whoever opens the
-    /// file finds the old one or the new one, whole. Where an answer is no, the old one is there as it was.
-    pub fn replace(self, name: &Path, bytes: &[u8], force: bool) -> Result<(), Stop> {
+    /// file finds the old one or the new one, whole. Where an answer is no, the old one is there as it was. Gives words for what could not be
+    /// kept, by force.
+    pub fn replace(self, name: &Path, bytes: &[u8], force: bool) -> Result<Option<String>, Stop> {
         let no = |error: io::Error| Stop::system(name, &error);
         let (Some(folder), Some(base)) = (self.path.parent(), self.path.file_name()) else {
-            return Err(Stop::failed(format!("{}: there is no folder to write to", name.display())));
+            return Err(Stop::failed(format!("{}: there is no folder to write to", named(name))));
         };
         let beside = |error: io::Error| {
-            Stop::failed(format!("{}: the new file cannot be made in {}: {}", name.display(), folder.display(), reason(&error)))
+            Stop::failed(format!("{}: the new file cannot be made in {}: {}", named(name), named(folder), reason(&error)))
         };
         let opened_folder = File::open(folder).map_err(beside)?;
-        remove_leftovers(folder, base);
+        if leads_to(name, &self.path, &self.metadata).unwrap_or(false) {
+            remove_leftovers(folder, base);
+        }
         let path = folder.join(new_name(base));
         // For its owner alone, until it has the old one's owner and mode.
         let mut file = File::options().write(true).create_new(true).mode(0o600).open(&path).map_err(beside)?;
         let mut new = New { path, renamed: false };
-        let is_owner_kept = self.keep_owner(name, &file, force)?;
+        let mut kept = self.keep_owner(name, &file, force)?;
         file.write_all(bytes).map_err(no)?;
-        self.keep_attributes(name, &file, force)?;
-        // Last, since a change of owner takes bits away, and since a list that the folder has given to the file is shut until here; and
-        // another owner's file gives nobody its owner's rights.
-        let mode = self.metadata.mode() & if is_owner_kept { 0o7777 } else { 0o777 };
-        file.set_permissions(Permissions::from_mode(mode)).map_err(no)?;
+        kept.attributes = self.keep_attributes(name, &file, force)?;
+        // Last, since a change of owner takes bits away, and since a list that the folder has given to the file is shut until here.
+        file.set_permissions(Permissions::from_mode(self.mode(&kept))).map_err(no)?;
         file.sync_all().map_err(no)?;
         // Its answer counts, and dropping the file would not give it.
         if close(file.into_raw_fd()) < 0 {
@@ -187,65 +212,91 @@ impl Held {
         }
         self.look_again(name)?;
         fs::rename(&new.path, &self.path)
-            .map_err(|error| Stop::failed(format!("{}: the new file cannot take its place: {}", name.display(), reason(&error))))?;
+            .map_err(|error| Stop::failed(format!("{}: the new file cannot take its place: {}", named(name), reason(&error))))?;
         new.renamed = true;
         opened_folder.sync_all().map_err(|error| {
             Stop::failed(format!(
                 "{}: the line is replaced, but the folder could not be flushed ({}): if the power fails now, the edit may be lost",
-                name.display(),
+                named(name),
                 reason(&error)
             ))
-        })
+        })?;
+        Ok(self.lost(&kept))
     }
 
-    /// Gives the new file the old one's owner and group; false where that is not permitted and goes on by force.
-    fn keep_owner(&self, name: &Path, file: &File, force: bool) -> Result<bool, Stop> {
-        let made = file.metadata().map_err(|error| Stop::system(name, &error))?;
+    /// Gives the new file the old one's owner and group, or what is permitted of it, by force.
+    fn keep_owner(&self, name: &Path, file: &File, force: bool) -> Result<Kept, Stop> {
+        let system = |error: io::Error| Stop::system(name, &error);
         let (user, group) = (self.metadata.uid(), self.metadata.gid());
-        if (made.uid(), made.gid()) == (user, group) {
-            return Ok(true);
+        let kept = |made: Metadata| Kept { user: made.uid() == user, group: made.gid() == group, attributes: true };
+        let made = file.metadata().map(kept).map_err(system)?;
+        if made.user && made.group {
+            return Ok(made);
         }
         match fchown(file, Some(user), Some(group)) {
-            Ok(()) => Ok(true),
+            Ok(()) => Ok(Kept { user: true, group: true, attributes: true }),
             Err(_) if force => {
                 // The group alone may be permitted.
                 let _ = fchown(file, None, Some(group));
-                Ok(false)
+                file.metadata().map(kept).map_err(system)
             }
             Err(error) => Err(Stop::refused(format!(
                 "{}: the file belongs to user {user} and group {group}, which cannot be kept ({}); nothing was edited\n\
                  `marker edit --force` edits it, and the file is yours then",
-                name.display(),
+                named(name),
                 reason(&error)
             ))),
         }
     }
 
-    /// Gives the new file the old one's extended attributes; access control lists are among them.
-    fn keep_attributes(&self, name: &Path, file: &File, force: bool) -> Result<(), Stop> {
+    /// Gives the new file the old one's extended attributes; access control lists are among them. False where one cannot be kept, by force.
+    fn keep_attributes(&self, name: &Path, file: &File, force: bool) -> Result<bool, Stop> {
         match attributes::copy(&self.locked, file) {
-            Err(error) if !force => Err(Stop::refused(format!(
+            Ok(()) => Ok(true),
+            Err(_) if force => Ok(false),
+            Err(error) => Err(Stop::refused(format!(
                 "{}: an extended attribute or access control list of the file cannot be kept ({}); nothing was edited\n\
                  `marker edit --force` edits it without",
-                name.display(),
+                named(name),
                 reason(&error)
             ))),
-            _ => Ok(()),
         }
+    }
+
+    /// The new file's mode: nobody gets more than before. Another user's file gives nobody its owner's rights; another group, or one whose
+    /// rights a list said, gets no more than all others had.
+    fn mode(&self, kept: &Kept) -> u32 {
+        let mode = self.metadata.mode() & 0o7777;
+        match kept {
+            Kept { user: true, group: true, attributes: true } => mode,
+            Kept { group: true, attributes: true, .. } => mode & 0o777,
+            _ => mode & (0o707 | (mode & 0o007) << 3),
+        }
+    }
+
+    fn lost(&self, kept: &Kept) -> Option<String> {
+        let user = (!kept.user).then(|| format!("user {}", self.metadata.uid()));
+        let group = (!kept.group).then(|| format!("group {}", self.metadata.gid()));
+        let attributes = (!kept.attributes).then(|| "extended attributes or the access control list".to_string());
+        let lost: Vec<String> = [user, group, attributes].into_iter().flatten().collect();
+        (!lost.is_empty()).then(|| lost.join(", "))
     }
 
     /// Programs that know nothing of the lock may have changed the file or put another in its place. Its bytes are read again too, since
     /// the clock of many file systems takes two changes within some milliseconds for one.
     fn look_again(&self, name: &Path) -> Result<(), Stop> {
         let state = |m: &Metadata| (m.len(), m.mtime(), m.mtime_nsec(), m.ctime(), m.ctime_nsec());
-        let mut locked = &self.locked;
-        let source = locked.rewind().and_then(|()| read_all(locked)).map_err(|error| Stop::system(name, &error))?;
-        match fs::symlink_metadata(&self.path) {
-            Ok(now) if is_same(&now, &self.metadata) && state(&now) == state(&self.metadata) && source == self.source => Ok(()),
-            Ok(_) => Err(Stop::failed(format!(
-                "{}: another program has changed the file meanwhile; nothing was edited; try again",
-                name.display()
-            ))),
+        let is_as_it_was = || -> io::Result<bool> {
+            let mut locked = &self.locked;
+            let is_there = leads_to(name, &self.path, &self.metadata)?;
+            locked.rewind()?;
+            Ok(is_there && read_all(locked)? == self.source && state(&locked.metadata()?) == state(&self.metadata))
+        };
+        match is_as_it_was() {
+            Ok(true) => Ok(()),
+            Ok(false) => {
+                Err(Stop::failed(format!("{}: another program has changed the file meanwhile; nothing was edited; try again", named(name))))
+            }
             Err(error) => Err(Stop::system(name, &error)),
         }
     }
@@ -260,7 +311,7 @@ fn parts(base: &OsStr) -> (Vec<u8>, &'static [u8]) {
     ([b".", &base[..base.len().min(BASE)], b"."].concat(), b".marker")
 }
 
-/// A name that nobody can guess, so that nobody can put something there before. Each `RandomState` has random keys.
+/// A name that nobody can guess, so that nobody can put something there before: the keys of `RandomState` are the system's random numbers.
 fn new_name(base: &OsStr) -> OsString {
     let random = || RandomState::new().build_hasher().finish();
     let (head, tail) = parts(base);

@@ -1,5 +1,5 @@
 //! marker list FILE
-use crate::outcome::{Status, Stop, print};
+use crate::outcome::{Status, Stop, named, print};
 use crate::{files, report};
 use laqhoncu::{Refusal, Register, records};
 use std::ffi::OsStr;
@@ -19,7 +19,7 @@ pub fn list(name: &OsStr) -> Result<Status, Stop> {
         }
         Err(refused) => {
             print(refusal_line(&refused))?;
-            Err(Stop::refused(report::refusal(&name.to_string_lossy(), &source, 1, &refused).trim_end()))
+            Err(Stop::refused(report::refusal(&named(name), &source, 1, &refused).trim_end()))
         }
     }
 }

@@ -3,6 +3,7 @@
 mod args;
 mod attributes;
 mod check;
+mod descriptors;
 mod edit;
 mod files;
 mod list;
@@ -14,6 +15,7 @@ use outcome::Status;
 use std::process::ExitCode;
 
 fn main() -> ExitCode {
+    files::outlive_limits();
     let done = match Arguments::new(std::env::args_os().skip(1)).command() {
         Ok(Command::Say(text)) => outcome::print(text).map(|()| Status::Done),
         Ok(Command::Check { files }) => check::check(&files),

@@ -1,4 +1,6 @@
 //! How a command ends, and what it writes.
+use crate::descriptors;
+use std::ffi::OsStr;
 use std::io::{ErrorKind, Write};
 use std::path::Path;
 use std::{fmt, io};
@@ -31,7 +33,7 @@ impl Stop {
 
     /// The system said no about a file.
     pub fn system(path: &Path, error: &io::Error) -> Self {
-        Self::failed(format!("{}: {}", path.display(), reason(error)))
+        Self::failed(format!("{}: {}", named(path), reason(error)))
     }
 
     pub fn usage(message: impl fmt::Display, command: &str) -> Self {
@@ -46,20 +48,40 @@ pub fn reason(error: &io::Error) -> String {
     text.split(" (os error").next().unwrap_or(&text).to_string()
 }
 
+/// A file's name as text that does nothing to a terminal.
+pub fn named(name: impl AsRef<OsStr>) -> String {
+    name.as_ref().to_string_lossy().chars().map(|c| if c.is_control() { '?' } else { c }).collect()
+}
+
+fn write(text: &[u8]) -> io::Result<()> {
+    descriptors::file(1)?.write_all(text)
+}
+
 /// Writes to standard output. Where nobody reads on, nothing is said about it.
 pub fn print(text: impl AsRef<[u8]>) -> Result<(), Stop> {
-    let mut out = io::stdout().lock();
-    out.write_all(text.as_ref()).and_then(|()| out.flush()).map_err(|error| match error.kind() {
+    write(text.as_ref()).map_err(|error| match error.kind() {
         ErrorKind::BrokenPipe => Stop::failed(""),
         _ => Stop::failed(format!("standard output: {}", reason(&error))),
     })
 }
 
-/// Writes why a command goes no further to standard error; there is nowhere to say that it could not be written. A refusal begins with its
-/// file, so that an editor finds the place.
+/// Says that something is done: where standard output doesn't take it, on standard error, for it is done all the same.
+pub fn announce(text: &str) {
+    if write(format!("{text}\n").as_bytes()).is_err() {
+        warn(text);
+    }
+}
+
+/// Writes to standard error; there is nowhere to say that it could not be written.
+pub fn warn(text: &str) {
+    let _ = io::stderr().lock().write_all(format!("{text}\n").as_bytes());
+}
+
+/// Writes why a command goes no further. A refusal begins with its file, so that an editor finds the place.
 pub fn complain(stop: &Stop) {
-    let who = if stop.status == Status::Failed { "marker: " } else { "" };
-    if !stop.message.is_empty() {
-        let _ = io::stderr().lock().write_all(format!("{who}{}\n", stop.message).as_bytes());
+    match stop {
+        Stop { message, .. } if message.is_empty() => {}
+        Stop { status: Status::Failed, message } => warn(&format!("marker: {message}")),
+        Stop { message, .. } => warn(message),
     }
 }

@@ -24,6 +24,8 @@ fn order<'a>(log: &'a [String], path: &Path, length: usize) -> Result<&'a str, S
     let (lock, open, close, rename) = (one("flock file")?, one("open new")?, one("close new")?, one("rename")?);
     let (flush, folder_flush) = (one("fsync new")?, one("fsync folder")?);
     let (reads, writes) = (all("read file"), all("write new"));
+    let folder = path.parent().ok_or("there is no folder")?;
+    holds(log[one("open folder")?] == format!("open folder 0 {}", folder.display()), "another folder is flushed")?;
     holds(reads.iter().all(|read| lock < *read && *read < rename) && !reads.is_empty(), "the file is not read under the lock")?;
     holds(all("close file").iter().all(|close| rename < *close), "the file is let go before the rename")?;
     let new = log[open].strip_prefix("open new 600 ").ok_or("the new file is not for its owner alone")?;
@@ -72,6 +74,23 @@ fn the_new_file_is_whole_and_on_the_disk_before_it_takes_the_name() {
             }
         }
     }
+}
+
+/// A clock, a count or the program's own number would leave most digits as they were.
+#[test]
+fn the_new_files_name_is_another_one_in_each_digit() {
+    let (room, calls) = (Room::new("digits"), Calls::new("digits"));
+    let mut seen = vec![BTreeSet::new(); 32];
+    for _ in 0..40 {
+        room.put("f", "nop\n");
+        run(calls.on(&mut room.marker(["edit", "f", "1", "ret"]), &[("CALLS_DRY", "1")]), b"").is(0, "f: line 1 replaced\n", "");
+        let log = calls.log();
+        let name = log.iter().find_map(|line| line.strip_prefix("open new ")).unwrap();
+        let digits = name.strip_suffix(".marker").and_then(|name| name.rsplit('.').next()).unwrap();
+        assert_eq!(digits.len(), 32, "{name}");
+        digits.bytes().zip(&mut seen).for_each(|(digit, seen)| _ = seen.insert(digit));
+    }
+    assert!(seen.iter().all(|digits| digits.len() >= 5), "{seen:?}");
 }
 
 #[test]
@@ -150,6 +169,7 @@ fn a_call_left_out_or_out_of_order_is_seen() {
         ("write new 8", "write new 7"),
         ("write new 8", "write file 8"),
         ("rename /d/.f.0.marker /d/f", "rename /d/.f.0.marker /d/g"),
+        ("open folder 0 /d", "open folder 0 /"),
         ("close folder", "unlink /d/f"),
     ] {
         assert!(judge(&lines.map(|line| if line == old { new } else { line })).is_err(), "{new}");
@@ -280,10 +300,12 @@ fn an_owner_that_cannot_be_kept_is_said_and_force_edits_without() {
          `marker edit --force` edits it, and the file is yours then\n",
     );
     room.has_only_f("nop\nret\n", "the owner");
-    failing(&room, &calls, &["edit", "--force", "f", "2", "k equ 2"], &fail).is(0, "f: line 2 replaced\n", "");
+    let said = failing(&room, &calls, &["edit", "--force", "f", "2", "k equ 2"], &fail);
+    said.is(0, "f: line 2 replaced\n", "f: not kept: user 1234, group 5678\n");
     room.has_only_f("nop\nk equ 2\n", "the owner, by force");
+    // The new group has no more rights than all others had.
     let after = fs::metadata(room.path("f")).unwrap();
-    assert_eq!((after.uid(), after.gid(), after.mode() & 0o7777), (0, 0, 0o750));
+    assert_eq!((after.uid(), after.gid(), after.mode() & 0o7777), (0, 0, 0o700));
 }
 
 #[test]
@@ -301,8 +323,12 @@ fn an_attribute_that_cannot_be_kept_is_said_and_force_edits_without() {
          `marker edit --force` edits it without\n",
     );
     room.has_only_f("nop\nret\n", "the attribute");
-    failing(&room, &calls, &["edit", "--force", "f", "2", "k equ 2"], &fail).is(0, "f: line 2 replaced\n", "");
+    // A list may have said what the group may do, and its bits the most that anybody on it may.
+    fs::set_permissions(room.path("f"), Permissions::from_mode(0o664)).unwrap();
+    let said = failing(&room, &calls, &["edit", "--force", "f", "2", "k equ 2"], &fail);
+    said.is(0, "f: line 2 replaced\n", "f: not kept: extended attributes or the access control list\n");
     room.has_only_f("nop\nk equ 2\n", "the attribute, by force");
+    assert_eq!(fs::metadata(room.path("f")).unwrap().mode() & 0o7777, 0o644);
 }
 
 #[test]
@@ -321,15 +347,11 @@ fn a_limit_on_the_length_of_files_leaves_the_file_as_it_was() {
     let room = Room::new("limit");
     let old = "; a\n".repeat(12_000);
     room.put("f", &old);
-    // Without the signal, which is the system's other way to say it, the write fails in the middle.
-    run(&mut room.below("trap '' XFSZ; ulimit -f 8", ["edit", "f", "2", "nop"]), b"").is(2, "", "marker: f: File too large\n");
-    room.has_only_f(&old, "a limit");
-    // With it the program ends on the spot, and what it leaves goes with the next edit.
-    let said = run(&mut room.below("ulimit -c 0; ulimit -f 8", ["edit", "f", "2", "nop"]), b"");
-    assert!(said.signal.is_some(), "{said:?}");
-    assert_eq!((room.get("f") == old.as_bytes(), room.names().len()), (true, 2));
-    room.run(["edit", "f", "2", "nop"]).is(0, "f: line 2 replaced\n", "");
-    room.has_only_f(old.replacen("\n; a", "\nnop", 1), "the next edit");
+    // Whether or not whoever starts the program has told it to leave the system's signal alone.
+    for first in ["trap '' XFSZ; ulimit -f 8", "ulimit -c 0; ulimit -f 8", "ulimit -c 0; ulimit -f 0"] {
+        run(&mut room.below(first, ["edit", "f", "2", "nop"]), b"").is(2, "", "marker: f: File too large\n");
+        room.has_only_f(&old, first);
+    }
 }
 
 /// Runs an edit in a file system of its own in the memory, with these options; None where no such one can be made.

@@ -427,6 +427,72 @@ fn what_another_program_does_to_the_file_meanwhile_is_seen_and_kept() {
     }
 }
 
+/// Two folders with a file each, and a name that leads to the first one's, through a link to the folder or to the file.
+fn two_files(room: &Room, link: &str) {
+    for folder in ["v1", "v2"] {
+        fs::create_dir(room.path(folder)).unwrap();
+        room.put(format!("{folder}/f"), "nop\nret\n");
+    }
+    turn(room, link, "v1");
+}
+
+fn turn(room: &Room, link: &str, folder: &str) {
+    let _ = fs::remove_file(room.path("turned"));
+    symlink(if link == "cur" { folder.to_string() } else { format!("{folder}/f") }, room.path("turned")).unwrap();
+    fs::rename(room.path("turned"), room.path(link)).unwrap();
+}
+
+#[test]
+fn a_link_that_is_turned_while_an_edit_waits_leads_to_the_file_that_is_edited() {
+    for (link, name) in [("cur", "cur/f"), ("link", "link")] {
+        let (room, calls) = (Room::new(&format!("turned-{link}")), Calls::new(&format!("turned-{link}")));
+        two_files(&room, link);
+        let held = File::open(room.path("v1/f")).unwrap();
+        held.lock().unwrap();
+        let mut child = start(&room, &calls, &["edit", name, "2", "hlt"], &[]);
+        wait_for_lock(&calls, &mut child);
+        turn(&room, link, "v2");
+        drop(held);
+        ended(child, SOON).is(0, &format!("{name}: line 2 replaced\n"), "");
+        assert_eq!((room.get("v1/f"), room.get(name)), (b"nop\nret\n".to_vec(), b"nop\nhlt\n".to_vec()));
+    }
+}
+
+#[test]
+fn a_link_that_is_turned_during_an_edit_is_seen() {
+    for (link, name) in [("cur", "cur/f"), ("link", "link")] {
+        let (room, calls) = (Room::new(&format!("turns-{link}")), Calls::new(&format!("turns-{link}")));
+        two_files(&room, link);
+        let mut child = start(&room, &calls, &["edit", name, "2", "hlt"], &[("CALLS_PAUSE", "close new")]);
+        calls.wait_for_pause(&mut child);
+        turn(&room, link, "v2");
+        calls.go_on();
+        let words = format!("marker: {name}: another program has changed the file meanwhile; nothing was edited; try again\n");
+        ended(child, SOON).is(2, "", &words);
+        assert_eq!((room.get("v1/f"), room.get("v2/f")), (b"nop\nret\n".to_vec(), b"nop\nret\n".to_vec()));
+        assert_eq!((common::names(&room.path("v1")).len(), common::names(&room.path("v2")).len()), (1, 1));
+    }
+}
+
+#[test]
+fn a_new_file_in_use_is_not_taken_for_one_left_behind() {
+    let (room, calls, other) = (Room::new("in-use"), Calls::new("in-use-1"), Calls::new("in-use-2"));
+    room.put("f", "nop\nret\n");
+    let mut first = start(&room, &calls, &["edit", "f", "1", "cli"], &[("CALLS_PAUSE", "open folder")]);
+    calls.wait_for_pause(&mut first);
+    // Another program puts a new file in the place of the one that is held, and that one is edited too.
+    room.put("g", "sti\nret\n");
+    fs::rename(room.path("g"), room.path("f")).unwrap();
+    let mut second = start(&room, &other, &["edit", "f", "2", "hlt"], &[("CALLS_PAUSE", "rename")]);
+    other.wait_for_pause(&mut second);
+    calls.go_on();
+    let words = "marker: f: another program has changed the file meanwhile; nothing was edited; try again\n";
+    ended(first, SOON).is(2, "", words);
+    other.go_on();
+    ended(second, SOON).is(0, "f: line 2 replaced\n", "");
+    room.has_only_f("sti\nhlt\n", "the second edit");
+}
+
 #[test]
 fn a_file_that_is_replaced_without_end_is_said() {
     let (room, calls) = (Room::new("again"), Calls::new("again"));

@@ -163,6 +163,7 @@ fn a_file_may_have_any_name() {
         OsStr::new(".hidden"),
         OsStr::new("..."),
         OsStr::new("a\nb"),
+        OsStr::new("\u{1b}[2J"),
         OsStr::from_bytes(b"\xff\xfe.asm"),
         OsStr::from_bytes(&two),
         &long(199),
@@ -171,7 +172,8 @@ fn a_file_may_have_any_name() {
         &long(255),
     ] {
         room.put(name, "nop\nret\n");
-        let said = name.to_string_lossy();
+        // What could do something to a terminal is not printed.
+        let said = name.to_string_lossy().replace(['\n', '\u{1b}'], "?");
         room.run([OsStr::new("edit"), name, OsStr::new("2"), OsStr::new("hlt")]).is(0, &format!("{said}: line 2 replaced\n"), "");
         assert_eq!(room.get(name), b"nop\nhlt\n");
         assert_eq!(room.names(), [name]);

@@ -246,12 +246,14 @@ fn another_owners_file_is_edited_by_force_alone_and_then_belongs_to_the_user() {
     }
     set_mode(&room.0, 0o777);
     // A file that gives its owner's rights to whoever runs it does not give the user's.
-    for (user, group, before, after) in [
-        (0, 0, 0o666, 0o666),
-        (1234, 5678, 0o606, 0o606),
-        (1234, 5678, 0o6777, 0o777),
-        (1234, NOBODY, 0o660, 0o660),
-        (NOBODY, 5678, 0o640, 0o640),
+    // A group that was not the file's gets no more than all others had.
+    for (user, group, before, after, lost) in [
+        (0, 0, 0o666, 0o666, "user 0, group 0"),
+        (1234, 5678, 0o606, 0o606, "user 1234, group 5678"),
+        (1234, 5678, 0o6777, 0o777, "user 1234, group 5678"),
+        (1234, 5678, 0o676, 0o666, "user 1234, group 5678"),
+        (1234, NOBODY, 0o660, 0o660, "user 1234"),
+        (NOBODY, 5678, 0o640, 0o600, "group 5678"),
     ] {
         room.put("f", "nop\nret\n");
         chown(room.path("f"), Some(user), Some(group)).unwrap();
@@ -259,11 +261,21 @@ fn another_owners_file_is_edited_by_force_alone_and_then_belongs_to_the_user() {
         as_nobody(&room, &["edit", "f", "2", "hlt"]).is(1, "", &not_kept(user, group));
         room.has_only_f("nop\nret\n", "not by force");
         assert_eq!((owner(&room.path("f")), mode(&room.path("f"))), ((user, group), before));
-        as_nobody(&room, &["edit", "--force", "f", "2", "hlt"]).is(0, "f: line 2 replaced\n", "");
+        let said = as_nobody(&room, &["edit", "--force", "f", "2", "hlt"]);
+        said.is(0, "f: line 2 replaced\n", &format!("f: not kept: {lost}\n"));
         room.has_only_f("nop\nhlt\n", "by force");
         assert_eq!((owner(&room.path("f")), mode(&room.path("f"))), ((NOBODY, NOBODY), after));
         fs::remove_file(room.path("f")).unwrap();
     }
+    // Where the folder gives its own group to new files, the file's group is kept as far as that is permitted.
+    chown(&room.0, None, Some(777)).unwrap();
+    set_mode(&room.0, 0o2777);
+    room.put("f", "nop\nret\n");
+    chown(room.path("f"), Some(1234), Some(NOBODY)).unwrap();
+    set_mode(&room.path("f"), 0o660);
+    let said = as_nobody(&room, &["edit", "--force", "f", "2", "hlt"]);
+    said.is(0, "f: line 2 replaced\n", "f: not kept: user 1234\n");
+    assert_eq!((owner(&room.path("f")), mode(&room.path("f"))), ((NOBODY, NOBODY), 0o660));
 }
 
 #[test]
@@ -304,7 +316,7 @@ fn a_file_that_the_user_may_not_write_or_read_is_left_even_by_force() {
         let before = fs::metadata(room.path("f")).unwrap();
         for words in [&["edit", "f", "1", "ret"][..], &["edit", "--force", "f", "1", "ret"]] {
             let said = if is_root { as_nobody(&room, words) } else { room.run(words) };
-            said.is(2, "", "marker: f: Permission denied\n");
+            said.is(2, "", "marker: f: you may not read and write this file: Permission denied\n");
         }
         let after = fs::metadata(room.path("f")).unwrap();
         assert_eq!((before.ino(), before.mode(), before.ctime_nsec()), (after.ino(), after.mode(), after.ctime_nsec()));

@@ -99,7 +99,11 @@ fn a_file_that_is_refused_itself_is_not_edited() {
         (&" ".repeat(65_537), "f: a file may have at most 65,536 bytes\n".to_string()),
     ] {
         room.put("f", old);
-        room.run(["edit", "f", "1", "ret"]).is(1, "", &(said + "f: not edited: the file itself is refused\n"));
+        room.run(["edit", "f", "1", "ret"]).is(
+            1,
+            "",
+            &(said + "f: not edited: the file itself is refused, and is to be mended in an editor first\n"),
+        );
         room.has_only_f(old, old.trim());
     }
 }
@@ -325,8 +329,8 @@ fn a_standard_output_that_is_full_has_status_2() {
     {
         on(words).is(2, "", said);
     }
-    // It is said that the edit is done all the same.
-    on(&["edit", "f", "2", "hlt"]).is(2, "", "marker: standard output: No space left on device; f: line 2 is replaced\n");
+    // An edit that is done is done, and that is said elsewhere.
+    on(&["edit", "f", "2", "hlt"]).is(0, "", "f: line 2 replaced\n");
     assert_eq!(room.get("f"), b"nop\nhlt\n");
     assert_eq!(room.names(), ["f", "g"]);
 }
@@ -335,13 +339,37 @@ fn a_standard_output_that_is_full_has_status_2() {
 fn an_output_that_nobody_reads_ends_the_program_in_silence() {
     let room = Room::new("broken-pipe");
     room.put("f", "in\n".repeat(21_845));
-    for words in [&["list", "f"][..], &["check", "f"], &["--help"], &["edit", "f", "1", "ret"]] {
+    let done = "f: line 1 replaced\n";
+    // But for an edit that is done: that is said elsewhere.
+    for (words, status, err) in
+        [(&["list", "f"][..], 2, ""), (&["check", "f"], 2, ""), (&["--help"], 2, ""), (&["edit", "f", "1", "ret"], 0, done)]
+    {
         let (reader, writer) = std::io::pipe().unwrap();
         drop(reader);
         let child = room.marker(words).stdin(Stdio::null()).stdout(writer).stderr(Stdio::piped()).spawn().unwrap();
-        common::ended(child, Duration::from_secs(60)).is(2, "", "");
+        common::ended(child, Duration::from_secs(60)).is(status, "", err);
     }
     room.has_only_f(format!("ret\n{}", "in\n".repeat(21_844)), "nobody reads");
+}
+
+#[test]
+fn an_output_or_input_that_is_closed_is_no_empty_one() {
+    let room = Room::new("closed-said");
+    room.put("f", "nop\n");
+    let bad = "marker: standard output: Bad file descriptor\n";
+    for first in ["exec >&-", "exec 1</dev/null"] {
+        for words in [&["list", "f"][..], &["check", "f"], &["--version"]] {
+            run(&mut room.below(first, words), b"").is(2, "", bad);
+        }
+        run(&mut room.below(&format!("{first} <f"), ["edit", "-", "1", "ret"]), b"").is(2, "", bad);
+        run(&mut room.below(first, ["edit", "f", "1", "hlt"]), b"").is(0, "", "f: line 1 replaced\n");
+        room.has_only_f("hlt\n", first);
+    }
+    let bad = "marker: standard input: Bad file descriptor\n";
+    run(&mut room.below("exec <&-", ["check", "-"]), b"").is(2, "0 files checked, none refused, 1 not read\n", bad);
+    run(&mut room.below("exec <&-", ["list", "-"]), b"").is(2, "", bad);
+    // Where a person sends the words away, they are gone.
+    run(&mut room.below("exec >/dev/null", ["list", "f"]), b"").is(0, "", "");
 }
 
 #[test]

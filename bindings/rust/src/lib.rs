@@ -21,7 +21,7 @@
 //! # Ok::<(), Box<dyn std::error::Error>>(())
 //! ```
 //!
-//! A call needs stack: the header `laqhoncu.h` says how much. The stack of a Rust thread is long enough.
+//! A call needs stack: the header `laqhoncu.h` says how much, up to 428 KiB. The stack that a Rust thread has by default is long enough.
 
 #![warn(missing_docs)]
 
@@ -181,8 +181,9 @@ pub fn listing(source: &[u8]) -> Result<Vec<u8>, Refusal> {
 /// Exchanges the line that begins at `place` of a source for a text: writes the edited source and its listing, each from the first byte of
 /// its buffer on.
 ///
-/// `listing` is the old source's; only the new line is read. The answer is the full read's of the edited source, as long as neither the line,
-/// nor the text, nor the nearest line above that holds more than a comment leaves a `times` without its content
+/// `listing` is the old source's; only the new line is read. Where a line begins at `place`, the text has no line feed and `source` is long enough,
+/// the answer is the full read's of the edited source, as long as neither the line, nor the text, nor the nearest line above that holds more
+/// than a comment leaves a `times` without its content
 /// ([`TIMES_LEFT_OPEN`](refusals::TIMES_LEFT_OPEN)).
 ///
 /// ```
@@ -245,7 +246,8 @@ fn token_of(found: ffi::TokenFound, from: usize) -> Result<Token, Refusal> {
         b'"' => TokenKind::Text { closed: false },
         b'!' => TokenKind::Invalid(found.value as u8),
         refusals::BINARY_LARGER_DIGIT | refusals::PREFIXED_TOO_LARGE => return Err(Refusal::at(found.kind, from, found.end)),
-        kind => TokenKind::Punctuation(kind),
+        kind @ (b']' | b')' | b':' | b',' | b'$' | b'.' | b'/' | b'-' | b'[' | b'(' | b'+' | b'*') => TokenKind::Punctuation(kind),
+        kind => unknown("token", kind.into()),
     };
     Ok(Token { kind, span: Span { from, to: found.end } })
 }

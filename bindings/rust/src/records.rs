@@ -60,8 +60,9 @@ pub struct Records<'a> {
     place: usize,
 }
 
-/// Reads the records of a listing, one by one. It looks at each record alone, so not every row of records is a well-formed listing;
-/// those that [`full_read`](crate::full_read) and [`patch`](crate::patch) write are.
+/// Reads the records of a listing, one by one. Bytes with an unknown mark or a number that stands for nothing are no record. Each record is looked
+/// at alone, and its places not at all, so not every row of records is a well-formed listing; those that [`full_read`](crate::full_read)
+/// writes are.
 ///
 /// ```
 /// use laqhoncu::{Record, listing, records};
@@ -94,8 +95,8 @@ impl Fields<'_> {
         Some(Span { from: self.number()? as usize, to: self.number()? as usize })
     }
 
-    fn byte(&mut self) -> Option<u8> {
-        self.number()?.try_into().ok()
+    fn below(&mut self, limit: u32) -> Option<u32> {
+        self.number().filter(|number| *number < limit)
     }
 
     /// 0 is none.
@@ -117,7 +118,7 @@ fn first(listing: &[u8]) -> Option<(Record<'_>, usize)> {
         b"VL" => Record::Name { span: f.span()? },
         b"VI" => Record::InstructionStart { span: f.span()? },
         b"VS" => Record::SectionStart { span: f.span()? },
-        b"PF" => Record::Prefix { span: f.span()?, operator: Operator::of(f.number()?)? },
+        b"PF" => Record::Prefix { span: f.span()?, operator: Operator::of(f.below(2)?)? },
         b"IN" => Record::Infix { span: f.span()?, operator: Operator::of(f.number()?)? },
         b"OR" => Record::Register { span: f.span()?, register: Register::of(f.number()?)? },
         b"OS" => Record::Segment { span: f.span()?, segment: Segment::of(f.number()?)? },
@@ -127,25 +128,23 @@ fn first(listing: &[u8]) -> Option<(Record<'_>, usize)> {
         b"OX" => Record::Indirect {
             span: f.span()?,
             encoding: Encoding::of(f.number()?)?,
-            displacement: match f.number()? {
-                0 => false,
-                1 => true,
-                _ => return None,
-            },
+            displacement: f.below(2)? == 1,
             size: f.perhaps(Size::of)?,
             segment: f.perhaps(Segment::of)?,
         },
         b"LL" => Record::Label { span: f.span()? },
-        b"LI" => Record::Instruction { span: f.span()?, operation: f.byte()?, operands: f.byte()?, operands_span: f.span()? },
+        b"LI" => {
+            Record::Instruction { span: f.span()?, operation: f.below(99)? as u8, operands: f.below(3)? as u8, operands_span: f.span()? }
+        }
         b"LD" => {
             let span = f.span()?;
             let count = f.number()? as usize;
-            let (bytes, rest) = f.0.split_at_checked(count)?;
+            let (bytes, rest) = f.0.split_at_checked(count).filter(|_| count > 0)?;
             f.0 = rest;
             Record::Data { span, bytes }
         }
         b"LC" => Record::Constant { span: f.span()? },
-        b"LT" => Record::Times { span: f.span()? },
+        b"LT" => Record::Times { span: f.span().filter(|span| *span == Span::default())? },
         _ => return None,
     };
     Some((record, listing.len() - f.0.len()))

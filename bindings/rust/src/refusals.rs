@@ -41,7 +41,7 @@ refusals! {
     TIMES_WITHOUT_CONTENT 34 "`times` has no content",
     TIMES_LEFT_OPEN 40 "the line, its new text or the line above it leaves `times` without its content",
     LISTING_NOT_WELL_FORMED 41 "the listing is not well-formed",
-    NO_SUCH_PLACE 42 "there is no such line",
+    NO_SUCH_PLACE 42 "there is no such place, or no line begins there",
     LINE_FEED_IN_TEXT 43 "the new text has a line feed, and must be one line",
     BEYOND_32_BITS 50 "the result is beyond 32 bits",
     ZERO_DIVISOR 51 "the divisor is 0",

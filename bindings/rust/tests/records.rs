@@ -51,6 +51,79 @@ fn typed() {
     assert_eq!(all.iter().map(Record::mark).collect::<Vec<_>>(), ["ST", "VC", "PF", "OX", "OS", "LI"]);
 }
 
+/// The last record of a source before its line record.
+fn last(source: &str) -> String {
+    let bytes = listing(source.as_bytes()).unwrap_or_else(|refused| panic!("{source}: {refused:?}"));
+    let all: Vec<String> = records(&bytes).map(|record| format!("{:?}", record.unwrap())).collect();
+    all[all.len() - 2].clone()
+}
+
+/// Each word and each pair of registers in a source is what its spelling says.
+#[test]
+fn spelled_as_in_the_source() {
+    for (n, word) in "al cl dl bl ah ch dh bh ax cx dx bx sp bp si di".split(' ').enumerate() {
+        let register = Register::of(n as u32).unwrap();
+        assert_eq!((register.spelling(), register.number() as usize), (word, n));
+        let (span, name) = (Span { from: 4, to: 6 }, laqhoncu::name(word.as_bytes()));
+        assert_eq!(last(&format!("inc {word}")), format!("{:?}", Record::Register { span, register }));
+        assert_eq!(name, Some(laqhoncu::Name::Register(register)));
+    }
+    for word in "es cs ss ds".split(' ') {
+        let said = last(&format!("pop {word}"));
+        assert!(said.starts_with("Segment") && said.to_lowercase().contains(&format!("segment: {word} ")), "{said}");
+    }
+    for pair in ["bx+si", "bx+di", "bp+si", "bp+di", "si", "di", "bp", "bx"] {
+        let said = last(&format!("neg byte [{pair}]")).to_lowercase();
+        assert!(said.starts_with("indirect") && said.contains(&format!("encoding: {}, ", pair.replace('+', ""))), "{said}");
+        assert!(said.contains("size: some(byte), segment: none"), "{said}");
+    }
+    for (sign, name) in [("+", "Add"), ("-", "Subtract"), ("*", "Multiply"), ("/", "Divide")] {
+        let said = last(&format!("equ 1{sign}2"));
+        assert!(said.starts_with("Infix") && said.contains(&format!("operator: {name} ")), "{said}");
+    }
+    for (source, name) in
+        [("equ $", "InstructionStart"), ("equ $$", "SectionStart"), ("int 3", "Immediate"), ("jmp 1:2", "Far"), ("equ k", "Name")]
+    {
+        assert!(last(source).starts_with(name), "{source}: {}", last(source));
+    }
+    for encoding in (0..8).map(|n| Encoding::of(n).unwrap()) {
+        assert_eq!(format!("{encoding:?}").to_lowercase(), encoding.spelling().replace('+', ""));
+    }
+    let operators: String = (0..4).map(|n| Operator::of(n).unwrap().spelling()).collect();
+    assert_eq!(operators, "+-*/");
+}
+
+/// The statements of a source, read in turn, are its listing.
+#[test]
+fn statements_make_the_listing() {
+    let source = b"a: mov ax,[bx+4]\n\ntimes 2 dw 1,'ok'\nk equ -1+2*3 ; end\n";
+    let (mut out, mut place, mut all) = ([0xAA; 256], 0, Vec::new());
+    while let Some(statement) = laqhoncu::statement_read(source, place, &mut out).unwrap() {
+        all.extend_from_slice(&out[..statement.length]);
+        place = statement.ahead;
+    }
+    assert_eq!(all, listing(source).unwrap());
+}
+
+#[test]
+fn tokens_are_typed() {
+    use laqhoncu::TokenKind::*;
+    let source = b"k\t;c\n'a' 12 $!'b";
+    let (mut place, mut kinds) = (0, Vec::new());
+    loop {
+        let token = laqhoncu::token(source, place).unwrap();
+        assert_eq!(laqhoncu::token_read(source, place), Ok(token));
+        kinds.push(token.kind);
+        if token.kind == EndOfFile {
+            break;
+        }
+        place = token.span.to;
+    }
+    let blank = Whitespace;
+    let wanted = [Identifier, blank, Comment, NewLine, Text { closed: true }, blank, Number(12), blank, Punctuation(b'$'), Invalid(b'!')];
+    assert_eq!(kinds, [&wanted[..], &[Text { closed: false }, EndOfFile]].concat());
+}
+
 /// A mark and its fields.
 fn bytes(mark: &str, fields: &[u32]) -> Vec<u8> {
     mark.bytes().chain(fields.iter().flat_map(|field| field.to_le_bytes())).collect()
@@ -75,7 +148,11 @@ fn bytes_that_are_no_record() {
         bytes("OD", &[1, 3, 0, 5]),
         bytes("OX", &[1, 3, 8, 0, 0, 0]),
         bytes("OX", &[1, 3, 0, 2, 0, 0]),
-        bytes("LI", &[1, 3, 256, 0, 3, 3]),
+        bytes("PF", &[1, 3, 2]),
+        bytes("LI", &[1, 3, 99, 0, 3, 3]),
+        bytes("LI", &[1, 3, 0, 3, 3, 3]),
+        bytes("LD", &[1, 3, 0]),
+        bytes("LT", &[1, 3]),
         bytes("LD", &[1, 3, 1]),
         bytes("LD", &[1, 3, u32::MAX]),
     ];
