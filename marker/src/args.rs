@@ -25,7 +25,8 @@ The last line counts the files. Lines and columns count from 1, columns in bytes
 
   FILE    a marker file, or `-` for standard input
 
-Exit status: 0 all files are read, 1 one is refused, 2 one could not be opened or read.
+Exit status: 0 all files are read, 1 one is refused, 2 one could not be opened or read,
+wrong usage, or the system said no.
 ";
 
 const LIST_HELP: &str = "\
@@ -37,7 +38,7 @@ line `REF number from to register register`, and the refusal in words on standar
 
   FILE    a marker file, or `-` for standard input
 
-Exit status: 0 listed, 1 refused, 2 the file could not be opened or read.
+Exit status: 0 listed, 1 refused, 2 wrong usage or the system said no.
 ";
 
 const EDIT_HELP: &str = "\

@@ -54,37 +54,46 @@ mod system {
     }
 }
 
+/// The first attribute that could not be kept, and whether an access control list is among them.
+#[derive(Debug)]
+pub struct Lost {
+    pub error: io::Error,
+    pub is_list: bool,
+}
+
 #[cfg(target_os = "linux")]
 fn each(names: &[u8]) -> impl Iterator<Item = &std::ffi::CStr> {
     names.split_inclusive(|byte| *byte == 0).filter_map(|name| std::ffi::CStr::from_bytes_with_nul(name).ok())
 }
 
-/// Gives a new file the attributes of an old one, and no others. Where the file system has none, there is nothing to do.
+/// Gives a new file the attributes of an old one, and no others, as far as it can. Where the file system has none, there is nothing to do.
 #[cfg(target_os = "linux")]
-pub fn copy(old: &File, new: &File) -> io::Result<()> {
-    // The system's own labels are its to give: it has given the new file one.
-    let is_label = |name: &std::ffi::CStr| name.to_bytes().starts_with(b"security.");
+pub fn copy(old: &File, new: &File) -> Result<(), Lost> {
     let names = match system::names(old) {
         Err(error) if error.kind() == io::ErrorKind::Unsupported => return Ok(()),
-        names => names?,
+        names => names.map_err(|error| Lost { error, is_list: true })?,
+    };
+    let made = system::names(new).map_err(|error| Lost { error, is_list: true })?;
+    let mut lost: Option<Lost> = None;
+    let mut tried = |name: &std::ffi::CStr, done: io::Result<()>| {
+        // The system's own labels are its to give: it has given the new file one.
+        if let (Err(error), false) = (done, name.to_bytes().starts_with(b"security.")) {
+            let is_list = name.to_bytes().starts_with(b"system.") || lost.as_ref().is_some_and(|lost| lost.is_list);
+            lost = Some(Lost { error: lost.take().map_or(error, |lost| lost.error), is_list });
+        }
     };
     // A folder may give an access control list to each new file in it.
-    for name in each(&system::names(new)?) {
-        if !is_label(name) && each(&names).all(|kept| kept != name) {
-            system::remove(new, name)?;
-        }
+    for name in each(&made).filter(|name| each(&names).all(|kept| kept != *name)) {
+        tried(name, system::remove(new, name));
     }
     for name in each(&names) {
-        let copied = system::get(old, name).and_then(|value| system::set(new, name, &value));
-        if !is_label(name) {
-            copied?;
-        }
+        tried(name, system::get(old, name).and_then(|value| system::set(new, name, &value)));
     }
-    Ok(())
+    lost.map_or(Ok(()), Err)
 }
 
 #[cfg(not(target_os = "linux"))]
-pub fn copy(_old: &File, _new: &File) -> io::Result<()> {
+pub fn copy(_old: &File, _new: &File) -> Result<(), Lost> {
     Ok(())
 }
 

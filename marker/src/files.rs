@@ -18,7 +18,7 @@ use std::time::Duration;
 /// How long an edit waits for another one of the same file. An edit takes some milliseconds.
 const WAIT: Duration = Duration::from_secs(10);
 
-/// How often a file is taken hold of, when each time another one is in its place by then. Each time some other edit is done.
+/// How often a file is taken hold of, when each time its name is another one's by then: another edit was done, or a link was turned.
 const TRIES: usize = 1_000;
 
 /// Whether the system's numbers below are the usual ones.
@@ -178,12 +178,14 @@ struct Kept {
     user: bool,
     group: bool,
     attributes: bool,
+    list: bool,
+    mode: bool,
 }
 
 impl Held {
     /// Puts a file with these bytes in the place of the held one: written beside it, flushed, and then renamed, so that whoever opens the
-    /// file finds the old one or the new one, whole. Where an answer is no, the old one is there as it was. Gives words for what could not be
-    /// kept, by force.
+    /// file finds the old one or the new one, whole. Where an answer before the rename is no, the old one is there as it was. Gives words for
+    /// what could not be kept, by force.
     pub fn replace(self, name: &Path, bytes: &[u8], force: bool) -> Result<Option<String>, Stop> {
         let no = |error: io::Error| Stop::system(name, &error);
         let (Some(folder), Some(base)) = (self.path.parent(), self.path.file_name()) else {
@@ -200,11 +202,12 @@ impl Held {
         // For its owner alone, until it has the old one's owner and mode.
         let mut file = File::options().write(true).create_new(true).mode(0o600).open(&path).map_err(beside)?;
         let mut new = New { path, renamed: false };
-        let mut kept = self.keep_owner(name, &file, force)?;
+        let mut kept = Kept { user: true, group: true, attributes: true, list: true, mode: true };
+        self.keep_owner(name, &file, force, &mut kept)?;
         file.write_all(bytes).map_err(no)?;
-        kept.attributes = self.keep_attributes(name, &file, force)?;
+        self.keep_attributes(name, &file, force, &mut kept)?;
         // Last, since a change of owner takes bits away, and since a list that the folder has given to the file is shut until here.
-        file.set_permissions(Permissions::from_mode(self.mode(&kept))).map_err(no)?;
+        self.keep_mode(name, &file, force, &mut kept)?;
         file.sync_all().map_err(no)?;
         // Its answer counts, and dropping the file would not give it.
         if close(file.into_raw_fd()) < 0 {
@@ -214,78 +217,102 @@ impl Held {
         fs::rename(&new.path, &self.path)
             .map_err(|error| Stop::failed(format!("{}: the new file cannot take its place: {}", named(name), reason(&error))))?;
         new.renamed = true;
+        let lost = self.lost(&kept);
         opened_folder.sync_all().map_err(|error| {
             Stop::failed(format!(
-                "{}: the line is replaced, but the folder could not be flushed ({}): if the power fails now, the edit may be lost",
+                "{}: the line is replaced, but the folder could not be flushed ({}): if the power fails now, the edit may be lost{}",
                 named(name),
-                reason(&error)
+                reason(&error),
+                lost.as_ref().map_or(String::new(), |lost| format!("; not kept: {lost}"))
             ))
         })?;
-        Ok(self.lost(&kept))
+        Ok(lost)
+    }
+
+    /// What cannot be kept is said, and nothing is edited but by force.
+    fn cannot_keep(name: &Path, what: &str, why: &str) -> Stop {
+        Stop::refused(format!(
+            "{}: {what} cannot be kept ({why}); nothing was edited\n`marker edit --force` edits it all the same",
+            named(name)
+        ))
     }
 
     /// Gives the new file the old one's owner and group, or what is permitted of it, by force.
-    fn keep_owner(&self, name: &Path, file: &File, force: bool) -> Result<Kept, Stop> {
-        let system = |error: io::Error| Stop::system(name, &error);
+    fn keep_owner(&self, name: &Path, file: &File, force: bool, kept: &mut Kept) -> Result<(), Stop> {
         let (user, group) = (self.metadata.uid(), self.metadata.gid());
-        let kept = |made: Metadata| Kept { user: made.uid() == user, group: made.gid() == group, attributes: true };
-        let made = file.metadata().map(kept).map_err(system)?;
-        if made.user && made.group {
-            return Ok(made);
+        let mut look = || {
+            let made = file.metadata().map_err(|error| Stop::system(name, &error))?;
+            (kept.user, kept.group) = (made.uid() == user, made.gid() == group);
+            Ok(kept.user && kept.group)
+        };
+        if look()? {
+            return Ok(());
         }
-        match fchown(file, Some(user), Some(group)) {
-            Ok(()) => Ok(Kept { user: true, group: true, attributes: true }),
-            Err(_) if force => {
-                // The group alone may be permitted.
-                let _ = fchown(file, None, Some(group));
-                file.metadata().map(kept).map_err(system)
+        if let Err(error) = fchown(file, Some(user), Some(group)) {
+            if !force {
+                return Err(Self::cannot_keep(name, &format!("user {user} and group {group}, whose file it is,"), &reason(&error)));
             }
-            Err(error) => Err(Stop::refused(format!(
-                "{}: the file belongs to user {user} and group {group}, which cannot be kept ({}); nothing was edited\n\
-                 `marker edit --force` edits it, and the file is yours then",
-                named(name),
-                reason(&error)
-            ))),
+            // The group alone may be permitted.
+            let _ = fchown(file, None, Some(group));
         }
+        look().map(|_| ())
     }
 
-    /// Gives the new file the old one's extended attributes; access control lists are among them. False where one cannot be kept, by force.
-    fn keep_attributes(&self, name: &Path, file: &File, force: bool) -> Result<bool, Stop> {
+    /// Gives the new file the old one's extended attributes; access control lists are among them.
+    fn keep_attributes(&self, name: &Path, file: &File, force: bool, kept: &mut Kept) -> Result<(), Stop> {
         match attributes::copy(&self.locked, file) {
-            Ok(()) => Ok(true),
-            Err(_) if force => Ok(false),
-            Err(error) => Err(Stop::refused(format!(
-                "{}: an extended attribute or access control list of the file cannot be kept ({}); nothing was edited\n\
-                 `marker edit --force` edits it without",
-                named(name),
-                reason(&error)
-            ))),
+            Ok(()) => {}
+            Err(lost) if force => (kept.attributes, kept.list) = (false, !lost.is_list),
+            Err(lost) => {
+                let what = if lost.is_list { "its access control list" } else { "an extended attribute of the file" };
+                return Err(Self::cannot_keep(name, what, &reason(&lost.error)));
+            }
         }
+        Ok(())
     }
 
-    /// The new file's mode: nobody gets more than before. Another user's file gives nobody its owner's rights; another group, or one whose
-    /// rights a list said, gets no more than all others had.
-    fn mode(&self, kept: &Kept) -> u32 {
-        let mode = self.metadata.mode() & 0o7777;
-        match kept {
-            Kept { user: true, group: true, attributes: true } => mode,
-            Kept { group: true, attributes: true, .. } => mode & 0o777,
-            _ => mode & (0o707 | (mode & 0o007) << 3),
+    /// Gives the new file the old one's mode; where something else is not kept, so much of it that nobody gets more than before. The user who
+    /// owns the file now is not the one whose rights a set-user bit gives. Members of another group may have been anybody, and those of the old
+    /// one are anybody now. And a list may have shut somebody out.
+    fn keep_mode(&self, name: &Path, file: &File, force: bool, kept: &mut Kept) -> Result<(), Stop> {
+        let system = |error: io::Error| Stop::system(name, &error);
+        let old = self.metadata.mode() & 0o7777;
+        let wanted = match kept {
+            Kept { list: false, .. } => old & 0o700,
+            Kept { group: false, .. } => old & (0o700 | (old & 0o007) << 3 | (old & 0o070) >> 3),
+            Kept { user: false, .. } => old & 0o777,
+            _ => old,
+        };
+        file.set_permissions(Permissions::from_mode(wanted)).map_err(system)?;
+        // The system may leave a bit out without a word.
+        kept.mode = file.metadata().map_err(system)?.mode() & 0o7777 == old;
+        match kept.mode || force {
+            true => Ok(()),
+            false => Err(Self::cannot_keep(name, &format!("mode {old:o}"), "the system gives another one")),
         }
     }
 
     fn lost(&self, kept: &Kept) -> Option<String> {
-        let user = (!kept.user).then(|| format!("user {}", self.metadata.uid()));
-        let group = (!kept.group).then(|| format!("group {}", self.metadata.gid()));
-        let attributes = (!kept.attributes).then(|| "extended attributes or the access control list".to_string());
-        let lost: Vec<String> = [user, group, attributes].into_iter().flatten().collect();
+        let lost: Vec<String> = [
+            (kept.user, format!("user {}", self.metadata.uid())),
+            (kept.group, format!("group {}", self.metadata.gid())),
+            (kept.list, "the access control list".to_string()),
+            (kept.attributes || !kept.list, "an extended attribute".to_string()),
+            (kept.mode, format!("mode {:o}", self.metadata.mode() & 0o7777)),
+        ]
+        .into_iter()
+        .filter_map(|(is_kept, what)| (!is_kept).then_some(what))
+        .collect();
         (!lost.is_empty()).then(|| lost.join(", "))
     }
 
-    /// Programs that know nothing of the lock may have changed the file or put another in its place. Its bytes are read again too, since
-    /// the clock of many file systems takes two changes within some milliseconds for one.
+    /// Programs that know nothing of the lock may have changed the file or put another in its place. Its times alone
+    /// don't tell: the clock of many file systems takes two changes within some milliseconds for one.
     fn look_again(&self, name: &Path) -> Result<(), Stop> {
-        let state = |m: &Metadata| (m.len(), m.mtime(), m.mtime_nsec(), m.ctime(), m.ctime_nsec());
+        let state = |m: &Metadata| {
+            let times = (m.mtime(), m.mtime_nsec(), m.ctime(), m.ctime_nsec());
+            (m.len(), times, m.mode(), m.uid(), m.gid(), m.nlink())
+        };
         let is_as_it_was = || -> io::Result<bool> {
             let mut locked = &self.locked;
             let is_there = leads_to(name, &self.path, &self.metadata)?;

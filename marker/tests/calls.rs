@@ -1,7 +1,7 @@
 //! The calls on files that an edit makes, seen from below by calls.c: their order, and what is left where one of them fails. A program that
 //! leaves the flush, an answer or the order out fails here.
 mod common;
-use common::{Calls, Room, Said, is_root, notice, run, set_attribute};
+use common::{Calls, Room, Said, access_list, attribute, is_root, notice, run, set_attribute};
 use std::collections::BTreeSet;
 use std::fs::{self, Permissions};
 use std::os::unix::fs::{MetadataExt, PermissionsExt, chown, symlink};
@@ -296,12 +296,12 @@ fn an_owner_that_cannot_be_kept_is_said_and_force_edits_without() {
     failing(&room, &calls, EDIT, &fail).is(
         1,
         "",
-        "f: the file belongs to user 1234 and group 5678, which cannot be kept (Operation not permitted); nothing was edited\n\
-         `marker edit --force` edits it, and the file is yours then\n",
+        "f: user 1234 and group 5678, whose file it is, cannot be kept (Operation not permitted); nothing was edited\n\
+         `marker edit --force` edits it all the same\n",
     );
     room.has_only_f("nop\nret\n", "the owner");
     let said = failing(&room, &calls, &["edit", "--force", "f", "2", "k equ 2"], &fail);
-    said.is(0, "f: line 2 replaced\n", "f: not kept: user 1234, group 5678\n");
+    said.is(0, "f: line 2 replaced\n", "f: not kept: user 1234, group 5678, mode 4750\n");
     room.has_only_f("nop\nk equ 2\n", "the owner, by force");
     // The new group has no more rights than all others had.
     let after = fs::metadata(room.path("f")).unwrap();
@@ -319,16 +319,55 @@ fn an_attribute_that_cannot_be_kept_is_said_and_force_edits_without() {
     failing(&room, &calls, EDIT, &fail).is(
         1,
         "",
-        "f: an extended attribute or access control list of the file cannot be kept (No space left on device); nothing was edited\n\
-         `marker edit --force` edits it without\n",
+        "f: an extended attribute of the file cannot be kept (No space left on device); nothing was edited\n\
+         `marker edit --force` edits it all the same\n",
     );
     room.has_only_f("nop\nret\n", "the attribute");
-    // A list may have said what the group may do, and its bits the most that anybody on it may.
     fs::set_permissions(room.path("f"), Permissions::from_mode(0o664)).unwrap();
     let said = failing(&room, &calls, &["edit", "--force", "f", "2", "k equ 2"], &fail);
-    said.is(0, "f: line 2 replaced\n", "f: not kept: extended attributes or the access control list\n");
+    said.is(0, "f: line 2 replaced\n", "f: not kept: an extended attribute\n");
     room.has_only_f("nop\nk equ 2\n", "the attribute, by force");
-    assert_eq!(fs::metadata(room.path("f")).unwrap().mode() & 0o7777, 0o644);
+    assert_eq!(fs::metadata(room.path("f")).unwrap().mode() & 0o7777, 0o664);
+}
+
+#[test]
+fn an_access_control_list_that_cannot_be_kept_leaves_rights_to_the_owner_alone() {
+    let (room, calls) = (Room::new("list-fails"), Calls::new("list-fails"));
+    room.put("f", "nop\nret\n");
+    // User 4321 may read though the group may not, and user 1234 may not though all others may.
+    let list = access_list(&[(1, 6, !0), (2, 0, 1234), (2, 4, 4321), (4, 0, !0), (0x10, 4, !0), (0x20, 4, !0)]);
+    if let Err(error) = set_attribute(&room.path("f"), "system.posix_acl_access", &list) {
+        return notice(&format!("an_access_control_list_that_cannot_be_kept_..: skipped: {error}"));
+    }
+    set_attribute(&room.path("f"), "user.crew", b"north").unwrap();
+    let fail = [("CALLS_FAIL", "fsetxattr new"), ("CALLS_ERRNO", "1")];
+    failing(&room, &calls, EDIT, &fail).is(
+        1,
+        "",
+        "f: its access control list cannot be kept (Operation not permitted); nothing was edited\n\
+         `marker edit --force` edits it all the same\n",
+    );
+    room.has_only_f("nop\nret\n", "the list");
+    let said = failing(&room, &calls, &["edit", "--force", "f", "2", "k equ 2"], &fail);
+    said.is(0, "f: line 2 replaced\n", "f: not kept: the access control list, mode 644\n");
+    assert_eq!(fs::metadata(room.path("f")).unwrap().mode() & 0o7777, 0o600);
+}
+
+#[test]
+fn one_attribute_that_cannot_be_kept_costs_no_other() {
+    let (room, calls) = (Room::new("one-fails"), Calls::new("one-fails"));
+    room.put("f", "nop\nret\n");
+    let names = ["user.a", "user.b", "user.c"];
+    for name in names {
+        if let Err(error) = set_attribute(&room.path("f"), name, b"kept") {
+            return notice(&format!("one_attribute_that_cannot_be_kept_costs_no_other: skipped: {error}"));
+        }
+    }
+    let fail = [("CALLS_FAIL", "fsetxattr new"), ("CALLS_ERRNO", "28"), ("CALLS_TIMES", "1")];
+    let said = failing(&room, &calls, &["edit", "--force", "f", "2", "k equ 2"], &fail);
+    said.is(0, "f: line 2 replaced\n", "f: not kept: an extended attribute\n");
+    let kept = names.iter().filter(|name| attribute(&room.path("f"), name).is_ok_and(|value| value == b"kept"));
+    assert_eq!(kept.count(), 2);
 }
 
 #[test]

@@ -1,6 +1,6 @@
 //! What an edit does with files of all kinds: links, devices, modes, owners, attributes, folders.
 mod common;
-use common::{NOBODY, Room, attribute, ended, has_nobody, is_root, notice, run, set_attribute};
+use common::{NOBODY, Room, access_list, attribute, ended, has_nobody, is_root, notice, run, set_attribute};
 use std::ffi::OsString;
 use std::fs::{self, Permissions};
 use std::io::ErrorKind;
@@ -233,8 +233,8 @@ fn as_nobody(room: &Room, words: &[&str]) -> common::Said {
 
 fn not_kept(user: u32, group: u32) -> String {
     format!(
-        "f: the file belongs to user {user} and group {group}, which cannot be kept (Operation not permitted); nothing was edited\n\
-         `marker edit --force` edits it, and the file is yours then\n"
+        "f: user {user} and group {group}, whose file it is, cannot be kept (Operation not permitted); nothing was edited\n\
+         `marker edit --force` edits it all the same\n"
     )
 }
 
@@ -246,14 +246,15 @@ fn another_owners_file_is_edited_by_force_alone_and_then_belongs_to_the_user() {
     }
     set_mode(&room.0, 0o777);
     // A file that gives its owner's rights to whoever runs it does not give the user's.
-    // A group that was not the file's gets no more than all others had.
+    // Where the group is another one, group and others may do what both might.
     for (user, group, before, after, lost) in [
         (0, 0, 0o666, 0o666, "user 0, group 0"),
-        (1234, 5678, 0o606, 0o606, "user 1234, group 5678"),
-        (1234, 5678, 0o6777, 0o777, "user 1234, group 5678"),
-        (1234, 5678, 0o676, 0o666, "user 1234, group 5678"),
+        (1234, 5678, 0o606, 0o600, "user 1234, group 5678, mode 606"),
+        (1234, 5678, 0o6777, 0o777, "user 1234, group 5678, mode 6777"),
+        (1234, 5678, 0o676, 0o666, "user 1234, group 5678, mode 676"),
         (1234, NOBODY, 0o660, 0o660, "user 1234"),
-        (NOBODY, 5678, 0o640, 0o600, "group 5678"),
+        (1234, NOBODY, 0o4660, 0o660, "user 1234, mode 4660"),
+        (NOBODY, 5678, 0o640, 0o600, "group 5678, mode 640"),
     ] {
         room.put("f", "nop\nret\n");
         chown(room.path("f"), Some(user), Some(group)).unwrap();
@@ -276,6 +277,27 @@ fn another_owners_file_is_edited_by_force_alone_and_then_belongs_to_the_user() {
     let said = as_nobody(&room, &["edit", "--force", "f", "2", "hlt"]);
     said.is(0, "f: line 2 replaced\n", "f: not kept: user 1234\n");
     assert_eq!((owner(&room.path("f")), mode(&room.path("f"))), ((NOBODY, NOBODY), 0o660));
+}
+
+#[test]
+fn a_mode_that_the_system_does_not_give_is_said() {
+    let room = Room::new("set-group");
+    if !has_nobody(&room, "a_mode_that_the_system_does_not_give_is_said") {
+        return;
+    }
+    // The folder gives its group to the new file; the set-group bit is not a stranger's to give.
+    chown(&room.0, None, Some(5678)).unwrap();
+    set_mode(&room.0, 0o2777);
+    room.put("f", "nop\nret\n");
+    chown(room.path("f"), Some(NOBODY), Some(5678)).unwrap();
+    set_mode(&room.path("f"), 0o2664);
+    let words = "f: mode 2664 cannot be kept (the system gives another one); nothing was edited\n\
+                 `marker edit --force` edits it all the same\n";
+    as_nobody(&room, &["edit", "f", "2", "hlt"]).is(1, "", words);
+    room.has_only_f("nop\nret\n", "not by force");
+    as_nobody(&room, &["edit", "--force", "f", "2", "hlt"]).is(0, "f: line 2 replaced\n", "f: not kept: mode 2664\n");
+    room.has_only_f("nop\nhlt\n", "by force");
+    assert_eq!((owner(&room.path("f")), mode(&room.path("f"))), ((NOBODY, 5678), 0o664));
 }
 
 #[test]
@@ -402,11 +424,8 @@ fn an_access_control_list_is_kept() {
     let room = Room::new("access");
     room.put("f", "nop\n");
     set_mode(&room.path("f"), 0o600);
-    // Linux's form: version 2, then tag, rights and user of each entry. User 4321 may read and write; the group may not.
-    let entry = |tag: u16, rights: u16, user: u32| [&tag.to_le_bytes()[..], &rights.to_le_bytes(), &user.to_le_bytes()].concat();
-    let nobody = u32::MAX;
-    let entries = [entry(1, 6, nobody), entry(2, 6, 4321), entry(4, 0, nobody), entry(0x10, 6, nobody), entry(0x20, 0, nobody)];
-    let list = [&2_u32.to_le_bytes()[..], &entries.concat()].concat();
+    // User 4321 may read and write; the group may not.
+    let list = access_list(&[(1, 6, !0), (2, 6, 4321), (4, 0, !0), (0x10, 6, !0), (0x20, 0, !0)]);
     if !has_attribute(&room, "an_access_control_list_is_kept", "system.posix_acl_access", &list) {
         return;
     }
@@ -422,10 +441,7 @@ fn a_folders_default_access_control_list_does_not_open_the_file_to_others() {
     let room = Room::new("default-access");
     room.put("f", "nop\n");
     set_mode(&room.path("f"), 0o640);
-    let entry = |tag: u16, rights: u16, user: u32| [&tag.to_le_bytes()[..], &rights.to_le_bytes(), &user.to_le_bytes()].concat();
-    let nobody = u32::MAX;
-    let entries = [entry(1, 7, nobody), entry(2, 7, 4321), entry(4, 7, nobody), entry(0x10, 7, nobody), entry(0x20, 7, nobody)];
-    let list = [&2_u32.to_le_bytes()[..], &entries.concat()].concat();
+    let list = access_list(&[(1, 7, !0), (2, 7, 4321), (4, 7, !0), (0x10, 7, !0), (0x20, 7, !0)]);
     match set_attribute(&room.0, "system.posix_acl_default", &list) {
         Ok(()) => {}
         Err(error) => return notice(&format!("a folder's default access control list: skipped: {error}")),

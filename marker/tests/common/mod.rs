@@ -192,6 +192,13 @@ pub fn set_attribute(path: &Path, name: &str, value: &[u8]) -> io::Result<()> {
     }
 }
 
+/// The value of `system.posix_acl_access` or `_default`: tag, rights and user of each entry. Tag 1 is the owner, 2 a user, 4 the group, 0x10 the
+/// mask, 0x20 all others; without a user it is !0.
+pub fn access_list(entries: &[(u16, u16, u32)]) -> Vec<u8> {
+    let entry = |(tag, rights, user): &(u16, u16, u32)| [&tag.to_le_bytes()[..], &rights.to_le_bytes(), &user.to_le_bytes()].concat();
+    [2_u32.to_le_bytes().to_vec(), entries.iter().flat_map(entry).collect()].concat()
+}
+
 pub fn attribute(path: &Path, name: &str) -> io::Result<Vec<u8>> {
     let (path, name) = (c_string(path.as_os_str().as_bytes()), c_string(name.as_bytes()));
     let mut value = vec![0; 65_536];
