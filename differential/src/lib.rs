@@ -15,6 +15,7 @@ pub mod reads;
 pub mod recorded;
 pub mod samples;
 pub mod sources;
+pub mod timing;
 #[cfg(original)]
 pub mod tokens;
 pub mod values;

@@ -401,6 +401,16 @@ pub fn code_lines(length: usize) -> String {
     })
 }
 
+/// Data lines of about this many bytes, never more, whose numbers are hexadecimal.
+pub fn number_lines(length: usize) -> String {
+    fill(length, |_, random, text| {
+        // A first digit that is no letter and a last one that is no suffix.
+        let mut plain = || 0x1000 + random.below(0x4800) * 2;
+        let (first, second) = (plain(), plain());
+        *text += &format!("    dw {first:x}h, 0x{:X}, {second:X}h, 0x{:x}\n", random.below(65536), random.below(65536));
+    })
+}
+
 fn fill(length: usize, line: impl Fn(usize, &mut Random, &mut String)) -> String {
     let (mut random, mut text, mut i) = (Random::new(4), String::new(), 0);
     loop {

@@ -1,20 +1,28 @@
 -- Runs of a class and the numbers that digits write, step by step as the loops go.
-use Prim.Native.Nat.{ℕ, zero, suc, _+_, _*_, _-_, _≤_, _<_}
+use Prim.Native.Nat.{ℕ, zero, suc, _+_, _*_, _-_, _/_, _%_, _≤_, _<_}
 use mathlib.Core.Path.{_≡_, refl, sym, _∙_}
 use mathlib.Core.List.{List, [], _∷_}
-use mathlib.Core.Bool.{Bool, true, false, _&&_, _||_, and-false}
+use mathlib.Core.Bool.{Bool, true, false, not, _&&_, _||_, and-false}
 use mathlib.Core.Logic.{_⊎_, inl, inr, ⊎-elim}
 use native.Mathlib.Nat.{add-zero, add-suc, suc-add, le-refl, le-trans, le-mul-of-pos-right}
-use native.Mathlib.Numerals.{add-one}
+use native.Mathlib.Numerals.{add-one, lt-of-le-of-ne}
 use native.Mathlib.Omega.{arith}
-use lib.Dec.{leb}
+use lib.Dec.{eqb, leb}
 use lib.ListN.{length, getD, take, drop, drop-of-length-le}
 use lib.Seq.{drop-cons}
-use borrow.Author.Tests.{le-leb, lt-leb, leb-true, lt-ltb, le-ltb}
+use borrow.Author.Tests.{eqb-true, eqb-false, le-leb, lt-leb, leb-true, lt-ltb, le-ltb}
 use Rattle.lexer.specs.Text.{if_then_else_, within, isDigit, isHexDigit, run, all, digit, valueFrom, openText}
 use Rattle.lexer.specs.Tokens.{largest}
-use Rattle.lexer.specs.Runs.{valuedFrom}
+use Rattle.lexer.specs.Runs.{areHexDigits, valuedFrom}
 use Rattle.lexer.specs.declared.text.Value.the-variants.{Fits, Beyond}
+
+pub both : (a b : Bool) → (a && b) ≡ true → (a ≡ true) × (b ≡ true)
+both true b h = (refl, h)
+both false b h = let z : _≡_ {A = ℕ} 0 1 = cc in absurd (omega arith)
+
+pub one-of : (a b : Bool) → (a || b) ≡ true → (a ≡ true) ⊎ (b ≡ true)
+one-of true b h = inl refl
+one-of false b h = inr h
 
 module _ (p : ℕ → Bool) (s : List ℕ) (i : ℕ) where
   -- the byte at i belongs to the run
@@ -72,6 +80,11 @@ module _ (s : List ℕ) (i to : ℕ) where
       let count : to - i ≡ suc (to - (i + 1)) = omega arith in
       rw (drop-cons s i 0 inside, count, add-one)
 
+  -- a hexadecimal one, as all that follow
+  pub hex-more : i < to → to ≤ length s → areHexDigits s i to ≡ true → (isHexDigit (getD s i 0) ≡ true) × (areHexDigits s (i + 1) to ≡ true)
+  unfolding all
+  hex-more h l e = both (isHexDigit (getD s i 0)) (areHexDigits s (i + 1) to) (rw (digits-more h l) at e)
+
   -- none left
   pub digits-none : to ≤ i → take (to - i) (drop i s) ≡ []
   digits-none h =
@@ -106,32 +119,41 @@ module _ (v base : ℕ) where
   unfolding valuedFrom valueFrom all largest
   valued-end h = rw (le-leb v 2147483647 h)
 
--- Each class of digits is below its base.
-pub both : (a b : Bool) → (a && b) ≡ true → (a ≡ true) × (b ≡ true)
-both true b h = (refl, h)
-both false b h = let z : _≡_ {A = ℕ} 0 1 = cc in absurd (omega arith)
+-- A test tried on all numbers below n: on all bytes, where n is 256.
+unfoldable pub below : (ℕ → Bool) → ℕ → Bool
+below f zero = true
+below f (suc n) = f n && below f n
 
-pub one-of : (a b : Bool) → (a || b) ≡ true → (a ≡ true) ⊎ (b ≡ true)
-one-of true b h = inl refl
-one-of false b h = inr h
+pub below-all : (f : ℕ → Bool) (n : ℕ) → below f n ≡ true → (c : ℕ) → c < n → f c ≡ true
+unfolding below
+below-all f zero e c h = absurd (omega arith)
+below-all f (suc n) e c h = go (eqb c n) refl (below-all f n)
+  where
+    w : (f n ≡ true) × (below f n ≡ true)
+    w = both (f n) (below f n) e
 
-numeric : (z c : ℕ) → z ≤ 57 → (leb 48 c && leb c z) ≡ true → digit c < z - 47
+    go : (t : Bool) → eqb c n ≡ t → (below f n ≡ true → (c : ℕ) → c < n → f c ≡ true) → f c ≡ true
+    go true q r = rw (eqb-true c n q) (w .0)
+    go false q r = r (w .1) c (lt-of-le-of-ne (omega arith) (eqb-false c n q))
+
+-- The digits of each base are hexadecimal ones, and below the base.
+numeric : (z c : ℕ) → z ≤ 57 → (leb 48 c && leb c z) ≡ true → (isHexDigit c ≡ true) × (digit c < z - 47)
 unfolding openText
 numeric z c l h =
     let w = both (leb 48 c) (leb c z) h in
     let low : 48 ≤ c = leb-true 48 c (w .0) in
     let high : c ≤ z = leb-true c z (w .1) in
-    simp (w .0, le-leb c 57 (omega arith)) (omega arith)
+    (simp (w .0, le-leb c 57 (omega arith)), simp (w .0, le-leb c 57 (omega arith)) (omega arith))
 
-pub binary-digit : (c : ℕ) → within "0" "1" c ≡ true → digit c < 2
+pub binary-digit : (c : ℕ) → within "0" "1" c ≡ true → (isHexDigit c ≡ true) × (digit c < 2)
 unfolding within
 binary-digit c h = numeric 49 c (omega arith) h
 
-pub octal-digit : (c : ℕ) → within "0" "7" c ≡ true → digit c < 8
+pub octal-digit : (c : ℕ) → within "0" "7" c ≡ true → (isHexDigit c ≡ true) × (digit c < 8)
 unfolding within
 octal-digit c h = numeric 55 c (omega arith) h
 
-pub decimal-digit : (c : ℕ) → isDigit c ≡ true → digit c < 10
+pub decimal-digit : (c : ℕ) → isDigit c ≡ true → (isHexDigit c ≡ true) × (digit c < 10)
 unfolding isDigit within
 decimal-digit c h = numeric 57 c (omega arith) h
 
@@ -151,10 +173,23 @@ capital c h =
     let high : c ≤ 70 = leb-true c 70 (w .1) in
     simp (le-leb 48 c (omega arith), lt-leb c 57 (omega arith), w .0, le-leb c 90 (omega arith)) (omega arith)
 
-pub hexadecimal-digit : (c : ℕ) → isHexDigit c ≡ true → digit c < 16
+-- which says of base 16 what is said of the others
+pub hexadecimal-digit : (c : ℕ) → isHexDigit c ≡ true → (isHexDigit c ≡ true) × (digit c < 16)
 unfolding isHexDigit
-hexadecimal-digit c h =
-    ⊎-elim
-    (λ w. ⊎-elim (λ d. let l = decimal-digit c d in omega arith) (small c) (one-of (isDigit c) (within "a" "f" c) w))
-    (capital c)
-    (one-of (isDigit c || within "a" "f" c) (within "A" "F" c) h)
+hexadecimal-digit c h = (
+  h,
+  ⊎-elim
+      (λ w. ⊎-elim (λ d. let l = decimal-digit c d .1 in omega arith) (small c) (one-of (isDigit c) (within "a" "f" c) w))
+      (capital c)
+      (one-of (isDigit c || within "a" "f" c) (within "A" "F" c) h),
+)
+
+-- The sum that the code makes of a digit's character is the digit's worth.
+sums : ℕ → Bool
+sums c = not (isHexDigit c) || eqb (c % 16 + 9 * (c / 64)) (digit c)
+
+pub worth-by-sum : (c : ℕ) → c < 256 → isHexDigit c ≡ true → c % 16 + 9 * (c / 64) ≡ digit c
+unfolding below sums openText
+worth-by-sum c l h =
+    let t : (not (isHexDigit c) || eqb (c % 16 + 9 * (c / 64)) (digit c)) ≡ true = below-all sums 256 refl c l in
+    eqb-true _ _ (rw h at t)

@@ -3,15 +3,15 @@ use Prim.Native.Nat.{ℕ, zero, suc, pred, _+_, _-_, _≤_, _<_}
 use mathlib.Core.Path.{_≡_, refl, sym, ap, _∙_}
 use mathlib.Core.List.{List, [], _∷_}
 use mathlib.Core.Bool.{Bool, true, false, not, _&&_, _||_, or-false, Bool·beq}
-use native.Mathlib.Numerals.{add-one, lt-of-le-of-ne}
+use native.Mathlib.Numerals.{add-one}
 use native.Mathlib.Omega.{arith}
 use lib.Dec.{eqb, leb, ltb}
 use lib.ListN.{length, getD, take, drop, length-drop, drop-of-length-le}
 use lib.Seq.{drop-cons, drop-drop, getD-drop}
-use borrow.Author.Tests.{eq-eqb, ne-eqb, eqb-true, eqb-false, lt-ltb, not-true}
+use borrow.Author.Tests.{eq-eqb, ne-eqb, eqb-true, lt-ltb, not-true}
 use Rattle.lexer.specs.Text.{if_then_else_, is, anyOf, isBlank, isDigit, isHexDigit, isLetter, isWordPart, within, run, all, last, digit, valueFrom, openText}
 use Rattle.lexer.specs.Tokens.{largest, numeral, stray, prefixed, digits, inBase, suffixed, numberAt, inQuotes, stringAfter, inComment, markAt, tokenAt, openTokens}
-use Rattle.lexer.specs.Runs.{valuedFrom, upToOne, afterZero}
+use Rattle.lexer.specs.Runs.{valuedFrom, upToOne, areHexDigits, afterZero}
 use Rattle.lexer.specs.Scanned.{scannedOf, isMark}
 use Rattle.lexer.specs.declared.Scanned.{Scanned}
 use Rattle.lexer.specs.declared.Fault.the-variants.{LargerDigit, TooLarge}
@@ -19,7 +19,7 @@ use Rattle.lexer.specs.declared.Token.the-variants.{Whitespace, Identifi
 use Rattle.lexer.specs.declared.TokenRead.{TokenRead}
 use Rattle.lexer.specs.declared.TokenRead.the-variants.{Read, Refused}
 use Rattle.lexer.specs.declared.text.Value.the-variants.{Fits, Beyond}
-use Rattle.lexer.proofs.Runs.{both, run-le, run-all, run-ends}
+use Rattle.lexer.proofs.Runs.{below, below-all, run-le, run-all, run-ends}
 
 abbrev flat : ℕ → ℕ → ℕ → Scanned
 flat k v e = record { kind = k; value = v; end = e }
@@ -101,16 +101,20 @@ module _ (p : ℕ → Bool) (base at end : ℕ) (s : List ℕ) (e : end ≡ at +
       within zero q = absurd (some (omega arith))
       within (suc n) q = omega (arith, run-le p rest, length-drop (at + 2) s)
 
-  module _ (fit : (c : ℕ) → p c ≡ true → digit c < base) (some : end ≡ at + 2 → ⊥) where
+  module _ (fit : (c : ℕ) → p c ≡ true → (isHexDigit c ≡ true) × (digit c < base)) (some : end ≡ at + 2 → ⊥) where
     count : end - (at + 2) ≡ run p rest
     count = omega arith
+
+    -- and are hexadecimal ones
+    pub prefix-hex : areHexDigits s (at + 2) end ≡ true
+    prefix-hex = run-all p isHexDigit (λ c h. fit c h .0) (end - (at + 2)) rest (omega arith)
 
     value : ℕ
     value = valueFrom 0 base (take (run p rest) rest)
 
     valued : valuedFrom 0 base (take (end - (at + 2)) rest) ≡ (if leb value largest then Fits value else Beyond)
     unfolding valuedFrom value
-    valued = rw (count, run-all p (λ d. ltb (digit d) base) (λ c h. lt-ltb (digit c) base (fit c h)) (run p rest) rest (omega arith))
+    valued = rw (count, run-all p (λ d. ltb (digit d) base) (λ c h. lt-ltb (digit c) base (fit c h .1)) (run p rest) rest (omega arith))
 
     long : (eqb (run p rest) 0) ≡ false
     long = ne-eqb (run p rest) 0 (λ q. some (omega arith))
@@ -178,6 +182,10 @@ module _ (s : List ℕ) (at end : ℕ) (h : at < length s) (d : isDigit (getD s 
 
   pub suffix-within : end ≤ length s
   suffix-within = omega (arith, run-le isHexDigit (drop at s), length-drop at s)
+
+  -- what stands before the run's end are hexadecimal digits
+  pub suffix-hex : (to : ℕ) → to ≤ end → areHexDigits s at to ≡ true
+  suffix-hex to l = run-all isHexDigit isHexDigit (λ c t. t) (to - at) (drop at s) (omega arith)
 
   abbrev ds : List ℕ
   ds = take (end - at) (drop at s)
@@ -305,33 +313,13 @@ module _ (c : ℕ) (s : List ℕ) (at : ℕ) where
           zero-plain c (drop (suc at) s) (eqb-true c 48 z) (λ q. b (e ∙ q)) (λ q. o (e ∙ q)) (λ q. k (e ∙ q)) (λ q. x (e ∙ q))
       go false z b o k x = number-other c (drop (suc at) s) z
 
-less : (c n : ℕ) → c < suc n → (c ≡ n → ⊥) → c < n
-less c n h k = lt-of-le-of-ne (omega arith) k
-
 same : (a b : Bool) → Bool·beq a b ≡ true → a ≡ b
 same true true e = refl
 same true false e = sym e
 same false true e = e
 same false false e = refl
 
--- The classes of first bytes lie apart: tested once over all bytes.
-below : (ℕ → Bool) → ℕ → Bool
-below f zero = true
-below f (suc n) = f n && below f n
-
-below-all : (f : ℕ → Bool) (n : ℕ) → below f n ≡ true → (c : ℕ) → c < n → f c ≡ true
-unfolding below
-below-all f zero e c h = absurd (omega arith)
-below-all f (suc n) e c h = go (eqb c n) refl (below-all f n)
-  where
-    w : (f n ≡ true) × (below f n ≡ true)
-    w = both (f n) (below f n) e
-
-    go : (t : Bool) → eqb c n ≡ t → (below f n ≡ true → (c : ℕ) → c < n → f c ≡ true) → f c ≡ true
-    go true q r = rw (eqb-true c n q) (w .0)
-    go false q r = r (w .1) c (less c n h (eqb-false c n q))
-
--- a holds of no byte of which b does
+-- The classes of first bytes lie apart: a holds of no byte of which b does.
 pub Apart : (ℕ → Bool) → (ℕ → Bool) → Type 0
 Apart a b = (c : ℕ) → c < 256 → a c ≡ true → b c ≡ false
 

@@ -1,8 +1,10 @@
--- Samples of document 01's section "Tokens": numbers, computed. A row that does not hold is named.
+-- Samples of document 01's section "Tokens", computed: numbers, where a row that does not hold is named, and all the digits.
 use mathlib.Core.Path.{_≡_, refl}
 use mathlib.Core.List.{List, [], _∷_}
+use Prim.Native.Nat.{ℕ, zero, suc}
+use Prim.Native.Char.{Char, code}
 use Prim.Native.String.{String}
-use Rattle.lexer.specs.Text.{bytes}
+use Rattle.lexer.specs.Text.{if_then_else_, bytes, isHexDigit, digit, openText}
 use Rattle.lexer.specs.Tokens.{numeral, stray, tokenAt, openTokens}
 use Rattle.lexer.specs.declared.Fault.the-variants.{LargerDigit, TooLarge}
 use Rattle.lexer.specs.declared.TokenRead.{TokenRead}
@@ -44,3 +46,31 @@ Agree (k ∷ ks) = (tokenAt (bytes (k .source)) ≡ k .token) × Agree ks
 pub known : Agree samples
 unfolding openTokens samples Agree
 known = (refl, (refl, (refl, (refl, (refl, (refl, (refl, (refl, (refl, (refl, (refl, (refl, (refl, tt)))))))))))))
+
+-- A digit's character, as a byte, and what the digit is worth.
+pub record Worth : Type 0 where
+  pub byte : ℕ
+  pub worth : ℕ
+
+infix 80 _counts_
+abbrev pub _counts_ : Char → ℕ → Worth
+c counts w = record { byte = code c; worth = w }
+
+-- The 22 digit characters.
+unfoldable pub worths : List Worth
+worths =
+    "0" counts 0 ∷ "1" counts 1 ∷ "2" counts 2 ∷ "3" counts 3 ∷ "4" counts 4
+    ∷ "5" counts 5 ∷ "6" counts 6 ∷ "7" counts 7 ∷ "8" counts 8 ∷ "9" counts 9
+    ∷ "A" counts 10 ∷ "B" counts 11 ∷ "C" counts 12 ∷ "D" counts 13 ∷ "E" counts 14 ∷ "F" counts 15
+    ∷ "a" counts 10 ∷ "b" counts 11 ∷ "c" counts 12 ∷ "d" counts 13 ∷ "e" counts 14 ∷ "f" counts 15
+    ∷ []
+
+-- the hexadecimal digits among the bytes below n, each with its worth, before ws
+unfoldable pub digitsBelow : ℕ → List Worth → List Worth
+digitsBelow zero ws = ws
+digitsBelow (suc n) ws = digitsBelow n (if isHexDigit n then record { byte = n; worth = digit n } ∷ ws else ws)
+
+-- Among all bytes the hexadecimal digits are these 22, and each is worth what stands beside it.
+pub worths-known : digitsBelow 256 [] ≡ worths
+unfolding openText worths digitsBelow
+worths-known = refl

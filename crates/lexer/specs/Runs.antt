@@ -1,9 +1,10 @@
 -- What the code asks of a row of bytes: which class a byte belongs to, and the number that digits write.
 use mathlib.Core.Bool.{Bool, _&&_}
 use mathlib.Core.List.{List}
-use Prim.Native.Nat.{ℕ}
+use Prim.Native.Nat.{ℕ, _-_}
 use Prim.Native.Char.{code}
 use lib.Dec.{eqb, leb, ltb}
+use lib.ListN.{take, drop}
 use Rattle.lexer.specs.Text.{if_then_else_, is, within, isBlank, isDigit, isHexDigit, isWordPart, all, digit, valueFrom}
 use Rattle.lexer.specs.Tokens.{largest, inQuotes, inComment}
 use Rattle.lexer.specs.declared.text.Value.{Value}
@@ -24,6 +25,10 @@ belongs class c =
     else if eqb class 8 then within "0" "7" c
     else if eqb class 10 then isDigit c
     else isHexDigit c
+
+-- the bytes from a place to before another are hexadecimal digits
+abbrev pub areHexDigits : List ℕ → ℕ → ℕ → Bool
+areHexDigits s from to = all isHexDigit (take (to - from) (drop from s))
 
 -- the byte d behind a leading zero
 abbrev pub afterZero : ℕ → ℕ → ℕ

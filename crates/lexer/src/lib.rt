@@ -3,9 +3,9 @@ ghost use mathlib.Core.Path.{_≡_};
 ghost use mathlib.Core.Bool.{true};
 ghost use Prim.Native.Nat.{ℕ, suc, _+_, _-_, _≤_, _<_};
 ghost use lib.ListN.{length, take, drop, getD};
-ghost use Rattle.lexer.specs.Text.{isDigit, digit};
+ghost use Rattle.lexer.specs.Text.{isDigit, isHexDigit, digit};
 ghost use Rattle.lexer.specs.Tokens.{tokenAt, numberAt, suffixed, prefixed, digits};
-ghost use Rattle.lexer.specs.Runs.{belongs, afterZero};
+ghost use Rattle.lexer.specs.Runs.{belongs, areHexDigits, afterZero};
 ghost use Rattle.lexer.specs.Scanned.{isMark, scannedOf, tokenOf, nextOf};
 use text::BLANK;
 use text::QUOTED;
@@ -98,7 +98,8 @@ pub const TOO_LARGE: u8 = 31;
 
 // The digits of a base behind the prefix that stands at `at`.
 fn number_literal_with_prefix(source: &[u8], at: usize, base: u8) -> Scanned
-    requires { ⌜ (at < length (now source)) × (1 ≤ base) × (base ≤ 16) × ((c : ℕ) → belongs base c ≡ true → digit c < base) ⌝ }
+    requires { ⌜ (at < length (now source)) × (1 ≤ base) × (base ≤ 16)
+        × ((c : ℕ) → belongs base c ≡ true → (isHexDigit c ≡ true) × (digit c < base)) ⌝ }
     ensures { λ r. ⌜ r ≡ scannedOf at (prefixed base (belongs base) (drop (at + 2) (now (source .entry)))) ⌝ }
 {
     let from = at + 2;
@@ -126,7 +127,8 @@ fn number_literal_with_prefix(source: &[u8], at: usize, base: u8) -> Scanned
 
 // The digits from `at` to before `to`, as a literal that ends at `end`.
 fn number_literal(source: &[u8], at: usize, to: usize, base: u64, end: usize) -> Scanned
-    requires { ⌜ (at ≤ to) × (to ≤ length (now source)) × (at < length (now source)) × (1 ≤ base) × (base ≤ 16) × (at ≤ end) ⌝ }
+    requires { ⌜ (at ≤ to) × (to ≤ length (now source)) × (at < length (now source)) × (1 ≤ base) × (base ≤ 16) × (at ≤ end)
+        × (areHexDigits (now source) at to ≡ true) ⌝ }
     ensures { λ r. ⌜ r ≡ scannedOf at (digits (getD (now (source .entry)) at 0) base (take (to - at) (drop at (now (source .entry)))) (end - at)) ⌝ }
 {
     match from_radix(source, at, to, base) {

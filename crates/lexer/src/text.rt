@@ -1,11 +1,11 @@
 // Letters and numbers: classes of bytes, runs of a class, and the number that digits write.
 ghost use mathlib.Core.Path.{_≡_};
-ghost use mathlib.Core.Bool.{_||_};
+ghost use mathlib.Core.Bool.{true, _||_};
 ghost use Prim.Native.Nat.{ℕ, _+_, _-_, _≤_, _<_};
 ghost use lib.Dec.{eqb};
 ghost use lib.ListN.{length, take, drop, getD};
 ghost use Rattle.lexer.specs.Text.{within, isBlank, isDigit, isHexDigit, isLetter, isWordPart, digit, run};
-ghost use Rattle.lexer.specs.Runs.{belongs, valuedFrom};
+ghost use Rattle.lexer.specs.Runs.{belongs, areHexDigits, valuedFrom};
 
 pub fn is_whitespace(c: u8) -> bool
     ensures { λ r. ⌜ r ≡ isBlank c ⌝ }
@@ -110,26 +110,12 @@ pub fn run_end(source: &[u8], from: usize, class: u8) -> usize
     i
 }
 
-// What a digit is worth.
+// What a hexadecimal digit is worth: the low four bits of its code, and 9 more for a letter. A sum, so that every digit takes the
+// same path. Nothing is said of other characters; which are digits, and what they are worth, is the table `worths`.
 pub fn digit_value(c: u8) -> u64
-    ensures { λ r. ⌜ r ≡ digit c ⌝ }
+    ensures { λ r. ⌜ (isHexDigit c ≡ true → r ≡ digit c) ⌝ }
 {
-    if c < b'0' {
-        return 10;
-    }
-    if c <= b'9' {
-        return (c - b'0') as u64;
-    }
-    if c < b'A' {
-        return 10;
-    }
-    if c <= b'Z' {
-        return (c - b'A') as u64 + 10;
-    }
-    if c < b'a' {
-        return 10;
-    }
-    (c - b'a') as u64 + 10
+    (c % 16 + 9 * (c / 64)) as u64
 }
 
 // The number that digits write: one that an i32 holds, or none.
@@ -138,9 +124,9 @@ pub enum Value {
     Beyond,
 }
 
-// The number written from `from` to before `to`.
+// The number that the hexadecimal digits from `from` to before `to` write.
 pub fn from_radix(source: &[u8], from: usize, to: usize, base: u64) -> Value
-    requires { ⌜ (from ≤ to) × (to ≤ length (now source)) × (1 ≤ base) × (base ≤ 16) ⌝ }
+    requires { ⌜ (from ≤ to) × (to ≤ length (now source)) × (1 ≤ base) × (base ≤ 16) × (areHexDigits (now source) from to ≡ true) ⌝ }
     ensures { λ r. ⌜ r ≡ valuedFrom 0 base (take (to - from) (drop from (now (source .entry)))) ⌝ }
 {
     let mut v: u64 = 0;

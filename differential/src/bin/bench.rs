@@ -8,6 +8,7 @@ fn main() {
 #[cfg(original)]
 fn main() {
     use differential::sources;
+    use differential::timing::in_turn;
     use laqhoncu::{Patched, TokenKind};
     use mrc_compiler::ast::{DataSize, Register, Segment};
     use mrc_compiler::lexer::{Cursor, Token};
@@ -185,34 +186,6 @@ fn each<T>(words: &[&str], look: impl Fn(&str) -> T) {
     for word in words {
         std::hint::black_box(look(word));
     }
-}
-
-#[cfg(original)]
-struct Time {
-    best: f64,
-    median: f64,
-}
-
-/// Times both in seconds, one round of each in turn.
-#[cfg(original)]
-fn in_turn<A, B>(rounds: usize, mut a: impl FnMut() -> A, mut b: impl FnMut() -> B) -> (Time, Time) {
-    let (mut of_a, mut of_b) = (Vec::new(), Vec::new());
-    for _ in 0..rounds {
-        of_a.push(timed(&mut a));
-        of_b.push(timed(&mut b));
-    }
-    let time = |mut list: Vec<f64>| {
-        list.sort_by(f64::total_cmp);
-        Time { best: list[0], median: list[list.len() / 2] }
-    };
-    (time(of_a), time(of_b))
-}
-
-#[cfg(original)]
-fn timed<T>(mut f: impl FnMut() -> T) -> f64 {
-    let begun = std::time::Instant::now();
-    std::hint::black_box(f());
-    begun.elapsed().as_secs_f64()
 }
 
 /// The words of a text, as the lexer finds them.

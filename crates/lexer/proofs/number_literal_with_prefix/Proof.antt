@@ -2,7 +2,7 @@
 use mathlib.Core.Path.{sym, _∙_}
 use native.Mathlib.Omega.{arith}
 use Rattle.lexer.specs.Runs.{belongs}
-use Rattle.lexer.proofs.Scans.{prefix-alone, prefix-within, prefix-fits, prefix-beyond}
+use Rattle.lexer.proofs.Scans.{prefix-alone, prefix-within, prefix-hex, prefix-fits, prefix-beyond}
 use borrow.Author.Needs.{needs}
 use Rattle.lexer.proofs.number_literal_with_prefix.Statement.{statement}
 use Rattle.lexer.proofs.number_literal_with_prefix.Tie as tie
@@ -20,7 +20,7 @@ returns : tie.Need-returns
 returns c = prefix-alone _ _ _ _ _ (c .before .run-end .ensures) (c .if1 .taken)
 
 from-radix-requires : tie.Need-from-radix-requires
-from-radix-requires c κs = (omega arith, prefix-within (belongs (c .before .before .before .args .base)) 0 _ _ _ (c .before .run-end .ensures) (c .if1 .left), c .before .before .before .pre .1, c .before .before .before .pre .2)
+from-radix-requires c κs = (omega arith, prefix-within (belongs (c .before .before .before .args .base)) 0 _ _ _ (c .before .run-end .ensures) (c .if1 .left), c .before .before .before .pre .1, c .before .before .before .pre .2, prefix-hex (belongs (c .before .before .before .args .base)) (c .before .before .before .args .base) _ _ _ (c .before .run-end .ensures) (c .before .before .before .pre .3) (c .if1 .left))
 
 enum-known-v : tie.Need-enum-known-v
 enum-known-v c = search needs

@@ -1,9 +1,11 @@
 -- The run and the byte behind it settle the suffix, and with it the base, as in the definition.
-use mathlib.Core.Path.{sym, ap, _∙_}
+use mathlib.Core.Path.{_≡_, sym, ap, _∙_}
 use native.Mathlib.Omega.{arith}
 use Rattle.lexer.specs.Scanned.{scannedOf}
-use Rattle.lexer.proofs.Scans.{suffix-inside, suffix-within, suffix-larger, suffix-binary, suffix-decimal, suffix-octal, suffix-hexadecimal, suffix-none, larger-scanned}
-use Prim.Native.Nat.{_≤_, _<_}
+use Rattle.lexer.proofs.Scans.{suffix-inside, suffix-within, suffix-hex, suffix-larger, suffix-binary, suffix-decimal, suffix-octal, suffix-hexadecimal, suffix-none, larger-scanned}
+use mathlib.Core.Bool.{true}
+use Prim.Native.Nat.{_-_, _≤_, _<_}
+use Rattle.lexer.specs.Runs.{areHexDigits}
 use denote.Ref.{now}
 use lib.ListN.{length}
 use borrow.Author.Needs.{needs}
@@ -15,6 +17,15 @@ inside : (c : tie.After-run-end) → (c .before .before .args .at < c .run-end .
 inside c =
     let p = c .before .before .pre in
     (suffix-inside _ _ _ (p .0) (p .1) (c .run-end .ensures), suffix-within _ _ _ (p .0) (p .1) (c .run-end .ensures))
+
+-- and what stands in it, with its last byte or without, are hexadecimal digits
+hex : (c : tie.After-run-end) →
+    let s = now (c .before .before .args .source) in
+    let at = c .before .before .args .at in
+    (areHexDigits s at (c .run-end .result) ≡ true) × (areHexDigits s at (c .run-end .result - 1) ≡ true)
+hex c =
+    let p = c .before .before .pre in
+    (suffix-hex _ _ _ (p .0) (p .1) (c .run-end .ensures) _ (omega arith), suffix-hex _ _ _ (p .0) (p .1) (c .run-end .ensures) _ (omega arith))
 
 run-end-requires : tie.Need-run-end-requires
 run-end-requires c κs = search needs
@@ -35,7 +46,7 @@ returns : tie.Need-returns
 returns c = larger-scanned _ _ (inside (c .before .before .before .before .before) .0) ∙ ap (scannedOf _) (sym (suffix-larger _ _ _ (c .before .before .before .before .before .before .before .pre .0) (c .before .before .before .before .before .before .before .pre .1) (c .before .before .before .before .before .run-end .ensures) (sym (c .before .before .before .is-letter .ensures) ∙ c .before .before .if1 .taken) _ (c .before .run-end2 .ensures) (c .if2 .taken)))
 
 number-literal-requires : tie.Need-number-literal-requires
-number-literal-requires c κs = omega (arith, inside (c .before .before .before .before .before))
+number-literal-requires c κs = search (needs, inside (c .before .before .before .before .before), hex (c .before .before .before .before .before))
 
 returns-2 : tie.Need-returns-2
 returns-2 c = c .number-literal .ensures ∙ ap (scannedOf _) (sym (suffix-binary _ _ _ (c .before .before .before .before .before .before .before .before .pre .0) (c .before .before .before .before .before .before .before .before .pre .1) (c .before .before .before .before .before .before .run-end .ensures) (sym (c .before .before .before .before .is-letter .ensures) ∙ c .before .before .before .if1 .taken) _ (c .before .before .run-end2 .ensures) (c .before .if2 .left)))
@@ -44,7 +55,7 @@ is-letter-requires-2 : tie.Need-is-letter-requires-2
 is-letter-requires-2 c κs = search needs
 
 number-literal-requires-2 : tie.Need-number-literal-requires-2
-number-literal-requires-2 c κs = omega (arith, inside (c .before .before .before .before .before))
+number-literal-requires-2 c κs = search (needs, inside (c .before .before .before .before .before), hex (c .before .before .before .before .before))
 
 returns-3 : tie.Need-returns-3
 returns-3 c = c .number-literal2 .ensures ∙ ap (scannedOf _) (sym (suffix-decimal _ _ _ (c .before .before .before .before .before .before .before .before .pre .0) (c .before .before .before .before .before .before .before .before .pre .1) (c .before .before .before .before .before .before .run-end .ensures) (sym (c .before .before .before .before .is-letter .ensures) ∙ c .before .before .before .if1 .left) (sym (c .before .before .is-letter2 .ensures) ∙ c .before .if3 .taken)))
@@ -59,7 +70,7 @@ add-number-literal : tie.Need-add-number-literal
 add-number-literal c = omega (arith, inside (c .before .before .before .before .before .before .before .before))
 
 number-literal-requires-3 : tie.Need-number-literal-requires-3
-number-literal-requires-3 c κs = omega (arith, inside (c .before .before .before .before .before .before .before .before))
+number-literal-requires-3 c κs = search (needs, inside (c .before .before .before .before .before .before .before .before), hex (c .before .before .before .before .before .before .before .before))
 
 returns-4 : tie.Need-returns-4
 returns-4 c = c .number-literal3 .ensures ∙ ap (scannedOf _) (sym (suffix-octal _ _ _ (c .before .before .before .before .before .before .before .before .before .before .before .pre .0) (c .before .before .before .before .before .before .before .before .before .before .before .pre .1) (c .before .before .before .before .before .before .before .before .before .run-end .ensures) (sym (c .before .before .before .before .before .before .before .is-letter .ensures) ∙ c .before .before .before .before .before .before .if1 .left) (sym (c .before .before .before .before .before .is-letter2 .ensures) ∙ c .before .before .before .before .if3 .left) (rw (c .before .before .before .char-at .ensures) at (sym (c .before .before .is-letter3 .ensures) ∙ c .before .if4 .taken))))
@@ -71,13 +82,13 @@ add-number-literal-2 : tie.Need-add-number-literal-2
 add-number-literal-2 c = omega (arith, inside (c .before .before .before .before .before .before .before .before .before .before))
 
 number-literal-requires-4 : tie.Need-number-literal-requires-4
-number-literal-requires-4 c κs = omega (arith, inside (c .before .before .before .before .before .before .before .before .before .before))
+number-literal-requires-4 c κs = search (needs, inside (c .before .before .before .before .before .before .before .before .before .before), hex (c .before .before .before .before .before .before .before .before .before .before))
 
 returns-5 : tie.Need-returns-5
 returns-5 c = c .number-literal4 .ensures ∙ ap (scannedOf _) (sym (suffix-hexadecimal _ _ _ (c .before .before .before .before .before .before .before .before .before .before .before .before .before .pre .0) (c .before .before .before .before .before .before .before .before .before .before .before .before .before .pre .1) (c .before .before .before .before .before .before .before .before .before .before .before .run-end .ensures) (sym (c .before .before .before .before .before .before .before .before .before .is-letter .ensures) ∙ c .before .before .before .before .before .before .before .before .if1 .left) (sym (c .before .before .before .before .before .before .before .is-letter2 .ensures) ∙ c .before .before .before .before .before .before .if3 .left) (rw (c .before .before .before .before .before .char-at .ensures) at (sym (c .before .before .before .before .is-letter3 .ensures) ∙ c .before .before .before .if4 .left)) (rw (c .before .before .before .before .before .char-at .ensures) at (sym (c .before .before .is-letter4 .ensures) ∙ c .before .if5 .taken))))
 
 number-literal-requires-5 : tie.Need-number-literal-requires-5
-number-literal-requires-5 c κs = omega (arith, inside (c .before .before .before .before .before .before .before .before .before .before))
+number-literal-requires-5 c κs = search (needs, inside (c .before .before .before .before .before .before .before .before .before .before), hex (c .before .before .before .before .before .before .before .before .before .before))
 
 returns-6 : tie.Need-returns-6
 returns-6 c = c .number-literal5 .ensures ∙ ap (scannedOf _) (sym (suffix-none _ _ _ (c .before .before .before .before .before .before .before .before .before .before .before .before .before .pre .0) (c .before .before .before .before .before .before .before .before .before .before .before .before .before .pre .1) (c .before .before .before .before .before .before .before .before .before .before .before .run-end .ensures) (sym (c .before .before .before .before .before .before .before .before .before .is-letter .ensures) ∙ c .before .before .before .before .before .before .before .before .if1 .left) (sym (c .before .before .before .before .before .before .before .is-letter2 .ensures) ∙ c .before .before .before .before .before .before .if3 .left) (rw (c .before .before .before .before .before .char-at .ensures) at (sym (c .before .before .before .before .is-letter3 .ensures) ∙ c .before .before .before .if4 .left)) (rw (c .before .before .before .before .before .char-at .ensures) at (sym (c .before .before .is-letter4 .ensures) ∙ c .before .if5 .left))))
