@@ -85,6 +85,7 @@ enum laqhoncu_refusal {
     LAQHONCU_LINE_FEED_IN_TEXT = 43, /* patch: the new text has a line feed; span 0..0 */
     LAQHONCU_BEYOND_32_BITS = 50, /* evaluate: the value has no 32 signed bits; span 0..0 */
     LAQHONCU_ZERO_DIVISOR = 51, /* evaluate: division by 0; span 0..0 */
+    LAQHONCU_NUMBER_TOO_WIDE = 60, /* a number above 255 in `db`, or above 65,535 in `dw`; span: that number */
     LAQHONCU_NO_SUCH_OPERATOR = 255, /* evaluate: an operator number above 3, which the rules do not know; span 0..0 */
 };
 

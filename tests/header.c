@@ -126,7 +126,7 @@ static void full_reads(void) {
     reads("equ -1+2*3", "ST 0; VC 5 6 1; PF 4 6 1; VC 7 8 2; VC 9 10 3; IN 7 10 2; IN 4 10 0; LC 0 10");
     reads("equ 8/4/2", "ST 0; VC 4 5 8; VC 6 7 4; IN 4 7 3; VC 8 9 2; IN 4 9 3; LC 0 9");
     reads("equ $$", "ST 0; VS 4 5; LC 0 6");
-    reads("dw 70000", "ST 0; LD 0 8 2 112 17");
+    refuses("dw 70000", 60, 3, 8);
     refuses("db ,,", 23, 0, 2);
     reads("jmp 1:2", "ST 0; VC 4 5 1; VC 6 7 2; OF 4 7; LI 0 7 59 1 4 7");
     says(bytes("mov [ ax],bx"), 12, registers, "mov [ ax],bx");
@@ -158,6 +158,12 @@ static void full_reads(void) {
     refuses("mov ax,[(]", 24, 8, 9);
     refuses("db 'a", 26, 3, 5);
     refuses("mov ax,[es:]", 32, 7, 12);
+    reads("db 255", "ST 0; LD 0 6 1 255");
+    reads("dw 65535", "ST 0; LD 0 8 2 255 255");
+    refuses("db 256", 60, 3, 6);
+    refuses("dw 65536", 60, 3, 8);
+    refuses("times 2 db 0x100,12b", 60, 11, 16);
+    refuses("db 1,12b,256", 30, 5, 8);
     registers = refusal(25, 4, 9);
     registers.first = 14;
     registers.second = 11;
@@ -208,6 +214,7 @@ static void statement_reads(void) {
     statement("\n ;k", 0, refusal(0, 0, 0), 0, "", 0);
     statement("k equ 2", 8, refusal(42, 0, 0), 0, "", 0);
     statement("a dw 0abh", 2, refusal(30, 5, 8), 0, "", 0);
+    statement("a db 256", 2, refusal(60, 5, 8), 0, "", 0);
     statement("a equ *5", 2, refusal(22, 0, 0), 0, "", 0);
     statement("a\x80", 0, refusal(2, 1, 2), 0, "", 0);
     walk("k equ 2\n\n a: b: ; c\n times 3\n\n rep movsb\n db 1,2 \n jmp 1:2\n;d");
@@ -489,6 +496,7 @@ static void named(void) {
         {LAQHONCU_LINE_FEED_IN_TEXT, 43},
         {LAQHONCU_BEYOND_32_BITS, 50},
         {LAQHONCU_ZERO_DIVISOR, 51},
+        {LAQHONCU_NUMBER_TOO_WIDE, 60},
         {LAQHONCU_NO_SUCH_OPERATOR, 255},
     };
     char version[32];

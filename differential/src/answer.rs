@@ -13,6 +13,33 @@ pub fn moved(refusal: Refusal, place: usize) -> Refusal {
     }
 }
 
+/// How often each refusal was expected: a comparison that never meets one says nothing of it.
+#[derive(Clone, Copy, Debug)]
+pub struct Met([u64; 256]);
+
+impl Default for Met {
+    fn default() -> Self {
+        Self([0; 256])
+    }
+}
+
+impl Met {
+    pub fn add(&mut self, refusal: &Refusal) {
+        self.0[refusal.number as usize] += 1;
+    }
+
+    pub fn times(&self, number: u8) -> u64 {
+        self.0[number as usize]
+    }
+
+    /// Panics where one of these was met too seldom.
+    pub fn assert(&self, numbers: &[u8]) {
+        for number in numbers {
+            assert!(self.times(*number) > 10, "refusal {number} is met {} times only", self.times(*number));
+        }
+    }
+}
+
 /// What a word names.
 #[derive(Clone, Copy, Debug, Default, PartialEq, Eq)]
 pub struct Named {

@@ -1,5 +1,6 @@
-//! Patches whose answers document 01 settles in its own words; no oracle is asked.
+//! Patches whose answers documents 01 and 02 settle in their own words; neither the model nor the original is asked.
 use crate::answer::{lines, Listing};
+use crate::model::Rules;
 use crate::patched::{called, shown, Call, Patch, Patched};
 use laqhoncu::Refusal;
 
@@ -21,13 +22,15 @@ impl Known {
     }
 }
 
-/// The bytes of records given as the program `listing` prints them, `; ` between two.
-fn records(text: &str) -> Vec<u8> {
+/// The bytes of records given as the program `listing` prints them, `; ` between two; of data, the count and then the bytes.
+pub fn records(text: &str) -> Vec<u8> {
     let mut listing = Listing { bytes: Vec::new(), base: 0 };
     for record in text.split("; ").filter(|record| !record.is_empty()) {
         let (mark, fields) = record.split_once(' ').unwrap();
         let fields: Vec<u32> = fields.split(' ').map(|field| field.parse().unwrap()).collect();
-        listing.record(mark, &fields);
+        let (fields, data) = fields.split_at(if mark == "LD" { 3 } else { fields.len() });
+        listing.record(mark, fields);
+        listing.bytes.extend(data.iter().map(|byte| u8::try_from(*byte).unwrap()));
     }
     listing.bytes
 }
@@ -40,7 +43,7 @@ fn refused(number: u8, from: usize, to: usize) -> Patched {
     Err(Refusal::at(number, from, to))
 }
 
-pub fn known() -> Vec<Known> {
+fn known() -> Vec<Known> {
     let blanks = |count| " ".repeat(count);
     let times = |count| "times 1 ".repeat(count);
     vec![
@@ -67,7 +70,8 @@ pub fn known() -> Vec<Known> {
         Known::of(format!("times 1{}", blanks(65529)), "", 0, "", refused(40, 0, 0)),
         Known::of([b"times 1;\x80".as_slice(), blanks(65528).as_bytes()].concat(), "", 0, "", refused(1, 0, 0)),
         Known::of([b"times 1;\x80".as_slice(), blanks(65527).as_bytes()].concat(), "", 0, "", written("", "")),
-        // 40 counts the limits of the read, looks at the nearest line above with more than blanks and a comment, and comes before the reading.
+        // 40 counts the limits of the read, looks at the nearest line above with more than blanks and a comment, and comes before the
+        // reading.
         Known::of("", "", 0, times(16), refused(40, 0, 0)),
         Known::of("", "", 0, times(17), refused(5, 128, 133)),
         Known::of("times 2\nb", "", 8, "equ *", refused(40, 0, 0)),
@@ -89,12 +93,40 @@ pub fn known() -> Vec<Known> {
             "k equ 2",
             written("k equ 2\nb\n", "ST 0; LL 0 1; ST 2; VC 6 7 2; LC 2 7; ST 8; LL 8 9"),
         ),
+        // 60 is of the new line alone: a listing from before it is well-formed, and its lines are copied or dropped unread.
+        Known::of(
+            "dw 70000\na",
+            "ST 0; LD 0 8 2 112 17; ST 9; LL 9 10",
+            9,
+            "b",
+            written("dw 70000\nb", "ST 0; LD 0 8 2 112 17; ST 9; LL 9 10"),
+        ),
+        Known::of(
+            "a\ndw 70000",
+            "ST 0; LL 0 1; ST 2; LD 2 10 2 112 17",
+            0,
+            "bc",
+            written("bc\ndw 70000", "ST 0; LL 0 2; ST 3; LD 3 11 2 112 17"),
+        ),
+        Known::of("dw 70000", "ST 0; LD 0 8 2 112 17", 0, "dw 65535", written("dw 65535", "ST 0; LD 0 8 2 255 255")),
+        Known::of("a\nb", "ST 0; LL 0 1; ST 2; LL 2 3", 2, "dw 70000", refused(60, 5, 10)),
+        Known::of("a\nb\n0abh", "ST 0; LL 0 1; ST 2; LL 2 3", 2, "k: db 1,0x100,2b", refused(60, 10, 15)),
+        Known::of("a\nb", "ST 0; LL 0 1; ST 2; LL 2 3", 2, "times 2 db 256", refused(60, 13, 16)),
+        Known::of("a\ntimes 2", "ST 0; LL 0 1", 2, "db 256", refused(40, 0, 0)),
+        Known::of("times 2\nb", "", 8, "db 256", refused(40, 0, 0)),
+        Known::of("times 2 db 256\nb", "", 15, "c", written("times 2 db 256\nc", "ST 15; LL 15 16")),
     ]
 }
 
+/// Those that hold under some rules.
+pub fn under(rules: Rules) -> Vec<Known> {
+    let wide = |known: &Known| matches!(&known.answer, Err(refusal) if refusal.number == 60);
+    known().into_iter().filter(|known| rules.counts_fit || !wide(known)).collect()
+}
+
 /// Panics where the patch says something else. Gives how many were asked.
-pub fn replay(mut ours: impl Patch) -> u64 {
-    let list = known();
+pub fn replay(rules: Rules, mut ours: impl Patch) -> u64 {
+    let list = under(rules);
     for known in &list {
         let (call, room) = (known.call(), 65536);
         let said = called(&mut ours, &call, room, room);

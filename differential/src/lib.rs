@@ -1,23 +1,20 @@
-//! The original Rust and the proved library, side by side.
+//! The proved library beside a model of its rules, and the model beside the original Rust.
 
 pub mod answer;
+#[cfg(original)]
+pub mod departures;
 pub mod known;
 pub mod lent;
-#[cfg(original)]
-pub mod limits;
+pub mod model;
 #[cfg(original)]
 pub mod original;
 pub mod patched;
-#[cfg(original)]
 pub mod patches;
-#[cfg(original)]
 pub mod reads;
 pub mod recorded;
 pub mod samples;
 pub mod sources;
 pub mod timing;
-#[cfg(original)]
 pub mod tokens;
 pub mod values;
-#[cfg(original)]
 pub mod words;

@@ -1,5 +1,5 @@
 //! What the original says of a source, in the form of our answers: its trees as a listing, its errors as refusals, its panics
-//! as 30 to 34. The limits 3 and 5 are not the original's: see `limits`.
+//! as 30 to 34. Where this software parts from it: see `departures`.
 use crate::answer::{moved, Answer, Listing};
 use laqhoncu::{Refusal, Register, Segment, Size, Span, TokenKind};
 use mrc_compiler::ast::{self, ByteRegister, DataSize, Expression, Line, Operand, Operands, Value, WordRegister};
@@ -261,13 +261,13 @@ fn place_of(seen: &[Placed], line: &Line) -> usize {
 
 /// How much of a source is read.
 #[derive(Clone, Copy, PartialEq)]
-enum Part {
+pub enum Part {
     Whole,
     OneStatement,
 }
 
 /// The original, run over a source: Err(message) where it panicked.
-fn run(source: &str, part: Part) -> Result<Result<Vec<Line>, ParserError>, String> {
+pub fn run(source: &str, part: Part) -> Result<Result<Vec<Line>, ParserError>, String> {
     caught(|| {
         let mut parser = Parser::new(source);
         let mut lines = Vec::new();
@@ -368,6 +368,20 @@ pub fn read_statement(source: &[u8], place: usize) -> Answer {
         return Err(Refusal::at(42, 0, 0));
     }
     read_part(lent(source)?, place, Part::OneStatement)
+}
+
+/// Whether the original, having read the statement at a place, holds the token that begins at `ahead`. It doesn't say so itself; but a
+/// refused number makes it panic just when it is read: put in that token's stead it does, put behind that token it does not.
+pub fn holds(source: &str, place: usize, ahead: usize) -> bool {
+    let rest = &source[place..];
+    let (seen, _) = tokens(rest);
+    let held = seen.partition_point(|placed| place + placed.from < ahead);
+    let panics = |before: usize| {
+        let kept = if before == 0 { "" } else { &rest[..seen[before - 1].to] };
+        run(&format!("{kept} 2b"), Part::OneStatement).is_err_and(|message| number_of_panic(&message) == 30)
+    };
+    let begins = seen.get(held).map_or(rest.len(), |placed| placed.from);
+    place + begins == ahead && panics(held) && (held == seen.len() || !panics(held + 1))
 }
 
 /// The original's token at a place.

@@ -1,203 +1,25 @@
-//! The patch, by its rule: what is expected of it, and the comparison.
-use crate::answer::moved;
+//! Compares the patch with the model's.
+use crate::answer::Met;
+#[cfg(original)]
+use crate::departures::Asked;
 use crate::lent::filled;
-use crate::limits;
-use crate::patched::{called, shown, Call, Patch, Patched};
+use crate::model::{edited, line_end, open_beside, split, Rules};
+use crate::patched::{called, shown, Call, Patch};
 use crate::sources::{self, Random};
 use laqhoncu::Refusal;
 
-/// What the patch answers, lent these many bytes for the source and for the listing.
-pub fn expected(call: &Call, source_room: usize, listing_room: usize) -> Patched {
-    let Call { source, listing, place, text } = *call;
-    let refused = |number| Err(Refusal::at(number, 0, 0));
-    if place > source.len() || (place > 0 && source[place - 1] != b'\n') {
-        return refused(42);
-    }
-    if text.contains(&b'\n') {
-        return refused(43);
-    }
-    let end = line_end(source, place);
-    let edited = edited(call);
-    if source.len() > 65536 || edited.len() > 65536 {
-        return refused(1);
-    }
-    if let Some(at) = edited.iter().position(|b| *b > 127) {
-        return Err(Refusal::at(2, at, at + 1));
-    }
-    if !well_formed(listing, source.len()) {
-        return refused(41);
-    }
-    if open_beside(call, end) {
-        return refused(40);
-    }
-    // The new line is read with its line feed, if it has one, and with nothing behind it.
-    let line = &edited[place..edited.len().min(place + text.len() + 1)];
-    let new = limits::read(line).map_err(|refusal| moved(refusal, place))?;
-    let mut patched = Vec::new();
-    let (by, kept) = (text.len() as i64 - (end - place) as i64, statements(listing));
-    kept.iter().filter(|(at, _)| *at < place).for_each(|(_, records)| patched.extend_from_slice(records));
-    patched.extend(shifted(&new, place as i64));
-    kept.iter().filter(|(at, _)| *at >= end).for_each(|(_, records)| patched.extend(shifted(records, by)));
-    if edited.len() > source_room {
-        return refused(6);
-    }
-    if patched.len() > listing_room {
-        return refused(4);
-    }
-    Ok((edited, patched))
-}
-
-/// Where the line ends that begins at a place.
-fn line_end(source: &[u8], place: usize) -> usize {
-    place + source[place..].iter().take_while(|b| **b != b'\n').count()
-}
-
-/// The edited source of a call whose place is one of its source.
-pub fn edited(call: &Call) -> Vec<u8> {
-    let Call { source, place, text, .. } = *call;
-    [&source[..place], text, &source[line_end(source, place)..]].concat()
-}
-
-fn blank(line: &[u8]) -> bool {
-    let rest: Vec<&u8> = line.iter().skip_while(|b| b" \t\r".contains(b)).collect();
-    rest.first().is_none_or(|b| **b == b';')
-}
-
-/// The full read of the line alone, with its tests 1 and 2, refuses it with 34.
-fn leaves_times_open(line: &[u8]) -> bool {
-    limits::read(line).is_err_and(|refusal| refusal.number == 34)
-}
-
-/// How many fields follow a mark. Here records are read once more, apart from the library and the package, which are compared with it.
-fn fields_of(mark: &[u8]) -> Option<usize> {
-    Some(match mark {
-        b"ST" => 1,
-        b"VL" | b"VI" | b"VS" | b"OI" | b"OF" | b"LL" | b"LC" | b"LT" => 2,
-        b"VC" | b"PF" | b"IN" | b"OR" | b"OS" | b"LD" => 3,
-        b"OD" => 4,
-        b"OX" | b"LI" => 6,
-        _ => return None,
-    })
-}
-
-/// A record: its mark, its fields, and the bytes of data behind them.
-struct Record<'a> {
-    mark: &'a [u8],
-    fields: Vec<u32>,
-    data: &'a [u8],
-}
-
-/// The records of a listing, or None where it is none.
-fn records(listing: &[u8]) -> Option<Vec<Record<'_>>> {
-    let (mut list, mut rest) = (Vec::new(), listing);
-    while !rest.is_empty() {
-        let mark = rest.get(..2)?;
-        let bytes = rest.get(2..2 + 4 * fields_of(mark)?)?;
-        let fields: Vec<u32> = bytes.chunks(4).map(|b| u32::from_le_bytes(b.try_into().unwrap())).collect();
-        rest = &rest[2 + bytes.len()..];
-        let count = if mark == b"LD" { fields[2] as usize } else { 0 };
-        let data = rest.get(..count)?;
-        rest = &rest[count..];
-        list.push(Record { mark, fields, data });
-    }
-    Some(list)
-}
-
-/// Every field in range, children present as in reverse Polish, a line record ending each statement, places strictly rising.
-pub fn well_formed(listing: &[u8], length: usize) -> bool {
-    let Some(list) = records(listing) else { return false };
-    let (mut place, mut stack) = (None, Vec::new());
-    for Record { mark, fields, .. } in &list {
-        let done = stack == [b'L'];
-        if *mark == b"ST" {
-            let rises = place.is_none_or(|last| last < fields[0]);
-            if !(rises && fields[0] as usize <= length && (done || place.is_none())) {
-                return false;
-            }
-            (place, stack) = (Some(fields[0]), Vec::new());
-            continue;
-        }
-        let Some(first) = place else { return false };
-        let span = |f: u32, t: u32| first <= f && f <= t && t as usize <= length;
-        let at_most = |i: usize, most: u32| fields[i] <= most;
-        // what is taken from the stack, the last first; what is put there; whether the fields are in range
-        let (taken, put, good): (&[u8], u8, bool) = match *mark {
-            b"VC" | b"VL" | b"VI" | b"VS" => (b"", b'E', true),
-            b"PF" => (b"E", b'E', at_most(2, 1)),
-            b"IN" => (b"EE", b'E', at_most(2, 3)),
-            b"OR" => (b"", b'O', at_most(2, 15)),
-            b"OS" => (b"", b'O', at_most(2, 3)),
-            b"OI" => (b"E", b'O', true),
-            b"OF" => (b"EE", b'O', true),
-            b"OD" => (b"E", b'O', at_most(2, 2) && at_most(3, 4)),
-            b"OX" => {
-                let taken: &[u8] = if fields[3] == 1 { b"E" } else { b"" };
-                (taken, b'O', at_most(2, 7) && at_most(3, 1) && at_most(4, 2) && at_most(5, 4))
-            }
-            b"LL" => (b"", b'L', true),
-            b"LI" => (&b"OO"[..fields[3].min(2) as usize], b'L', at_most(2, 98) && at_most(3, 2) && span(fields[4], fields[5])),
-            b"LD" => (b"", b'L', fields[2] >= 1),
-            b"LC" => (b"E", b'L', true),
-            b"LT" => (b"LE", b'L', fields == &[0, 0]),
-            _ => unreachable!(),
-        };
-        if !good || !(*mark == b"LT" || span(fields[0], fields[1])) {
-            return false;
-        }
-        // Behind a line record only `times` may take it up.
-        if stack.last() == Some(&b'L') && *mark != b"LT" {
-            return false;
-        }
-        for wanted in taken {
-            if stack.pop() != Some(*wanted) {
-                return false;
-            }
-        }
-        stack.push(put);
-    }
-    place.is_none() || stack == [b'L']
-}
-
-/// The statements of a well-formed listing: place and bytes of each.
-fn statements(listing: &[u8]) -> Vec<(usize, Vec<u8>)> {
-    let mut list: Vec<(usize, Vec<u8>)> = Vec::new();
-    for record in records(listing).unwrap() {
-        if record.mark == b"ST" {
-            list.push((record.fields[0] as usize, Vec::new()));
-        }
-        let bytes = &mut list.last_mut().unwrap().1;
-        bytes.extend_from_slice(record.mark);
-        record.fields.iter().for_each(|field| bytes.extend_from_slice(&field.to_le_bytes()));
-        bytes.extend_from_slice(record.data);
-    }
-    list
-}
-
-/// The records with their places and spans moved, those of `times` excepted.
-fn shifted(listing: &[u8], by: i64) -> Vec<u8> {
-    let mut bytes = Vec::new();
-    for record in records(listing).unwrap() {
-        let places: &[usize] = match record.mark {
-            b"ST" => &[0],
-            b"LT" => &[],
-            b"LI" => &[0, 1, 4, 5],
-            _ => &[0, 1],
-        };
-        bytes.extend_from_slice(record.mark);
-        for (i, field) in record.fields.iter().enumerate() {
-            let field = if places.contains(&i) { (*field as i64 + by) as u32 } else { *field };
-            bytes.extend_from_slice(&field.to_le_bytes());
-        }
-        bytes.extend_from_slice(record.data);
-    }
-    bytes
-}
-
-/// Calls of the patch: bytes above 127 and long lines in every part, then random ones.
+/// Calls of the patch: bytes above 127, wide numbers, each cause of a refusal and long lines, then random ones. Their listings are document
+/// 01's, so some are of sources that are no longer accepted.
 pub fn calls(count: u64, f: &mut impl FnMut(&Call)) {
     foreign(f);
+    wide(f);
+    causes(f);
     longest(f);
     at_random(count, f);
+}
+
+fn read(source: &[u8]) -> Result<Vec<u8>, Refusal> {
+    Rules::BASE.full_read(source)
 }
 
 /// Accepted sources with their own listing, others, listings that were changed, places that are none, bytes above 127.
@@ -209,11 +31,11 @@ fn at_random(count: u64, f: &mut impl FnMut(&Call)) {
             if random.once_in(2) {
                 source.extend(sources::grammar(&mut random));
             }
-            if limits::read(&source).is_ok() || random.once_in(64) {
+            if read(&source).is_ok() || random.once_in(64) {
                 break source;
             }
         };
-        let mut listing = limits::read(&source).unwrap_or_default();
+        let mut listing = read(&source).unwrap_or_default();
         if random.once_in(8) {
             match random.below(4) {
                 0 if !listing.is_empty() => {
@@ -221,7 +43,7 @@ fn at_random(count: u64, f: &mut impl FnMut(&Call)) {
                     listing[at] = listing[at].wrapping_add(1 + random.below(3) as u8);
                 }
                 1 => listing.truncate(random.below(listing.len() + 1)),
-                2 => listing = limits::read(&sources::grammar(&mut random)).unwrap_or_default(),
+                2 => listing = read(&sources::grammar(&mut random)).unwrap_or_default(),
                 _ => listing.clear(),
             }
         }
@@ -285,11 +107,50 @@ fn foreign(f: &mut impl FnMut(&Call)) {
                     let blanked: Vec<u8> = source.iter().map(|b| if b.is_ascii() { *b } else { b' ' }).collect();
                     let place = above.len() + 1;
                     f(&Call { source: &source, listing: b"", place, text });
-                    if let Ok(listing) = limits::read(&blanked) {
+                    if let Ok(listing) = read(&blanked) {
                         f(&Call { source: &source, listing: &listing, place, text });
                     }
                 }
             }
+        }
+    }
+}
+
+/// A line above, the replaced one, the new one and one below, with and without numbers too wide for their data word, beside a `times` that
+/// is left open and in one that is not; with the source's own listing, with one that is another's, and with none.
+fn wide(f: &mut impl FnMut(&Call)) {
+    #[rustfmt::skip]
+    let lines = [
+        "", "nop", "times 2", "db 255", "db 256", "dw 65535", "dw 65536", "DW 70000 ; wide", "a: db 1,'x',256", "times 2 db 256",
+        "times 256 db 1", "times 2 times 3 dw 65536", "db 256,12b", "db 12b,256", "db a,256", "; db 256", "times 2 ; db 256", "in 256",
+        "db ,,256",
+    ];
+    for above in lines {
+        for replaced in lines {
+            for text in lines {
+                for below in ["\ndb 256", "", "\nb"] {
+                    let source = format!("{above}\n{replaced}{below}").into_bytes();
+                    let (place, text) = (above.len() + 1, text.as_bytes());
+                    let listing = read(&source).unwrap_or_default();
+                    f(&Call { source: &source, listing: &listing, place, text });
+                    if below.is_empty() {
+                        let shorter = read(replaced.as_bytes()).unwrap_or_default();
+                        f(&Call { source: &source, listing: &shorter, place, text });
+                        f(&Call { source: &source, listing: b"", place: 0, text });
+                    }
+                }
+            }
+        }
+    }
+}
+
+/// Each cause of a refusal as the new line, between lines that stay and as the last one.
+fn causes(f: &mut impl FnMut(&Call)) {
+    let source = b"k equ 2\nnop\ndw 1\n";
+    let listing = read(source).unwrap();
+    for text in sources::causes() {
+        for place in [8, source.len()] {
+            f(&Call { source, listing: &listing, place, text: text.as_bytes() });
         }
     }
 }
@@ -328,6 +189,12 @@ pub struct Count {
     pub replaced_foreign: u64,
     /// calls whose old or edited source is above 65,536 bytes
     pub too_long: u64,
+    /// calls whose listing is document 01's, of a source that is refused with 60 now
+    pub old_listings: u64,
+    /// how often each refusal was expected
+    pub met: Met,
+    #[cfg(original)]
+    pub asked: Asked,
 }
 
 impl Count {
@@ -341,25 +208,33 @@ impl Count {
         self.foreign += if foreign { calls } else { 0 };
         self.replaced_foreign += if foreign && edited.is_ascii() { calls } else { 0 };
         self.too_long += if call.source.len().max(edited.len()) > 65536 { calls } else { 0 };
+        let now = Rules::NOW.full_read(call.source);
+        let old = now.is_err_and(|refusal| refusal.number == 60) && read(call.source).is_ok_and(|listing| listing == call.listing);
+        self.old_listings += if old { calls } else { 0 };
+        #[cfg(original)]
+        [call.source, call.text, &edited].into_iter().for_each(|source| self.asked.full_read(source));
     }
 }
 
 /// Compares a patch with the expected one: with room enough, with just enough, with a byte too little for the source, the listing
 /// or both. Panics where they differ.
-pub fn compare(count: u64, mut ours: impl Patch) -> Count {
+pub fn compare(rules: Rules, count: u64, mut ours: impl Patch) -> Count {
     let mut compared = Count::default();
     calls(count, &mut |call| {
-        let rooms = match expected(call, usize::MAX, usize::MAX) {
+        let rooms = match rules.patch(call, usize::MAX, usize::MAX) {
             Ok((source, listing)) => {
                 compared.accepted += 1;
                 let (s, l) = (source.len(), listing.len());
                 vec![(s + 9, l + 9), (s, l), (s.saturating_sub(1), l), (s, l.saturating_sub(1)), (s.saturating_sub(1), l.saturating_sub(1))]
             }
-            Err(_) => vec![(65536, 65536), (0, 0)],
+            Err(refusal) => {
+                compared.met.add(&refusal);
+                vec![(65536, 65536), (0, 0)]
+            }
         };
         compared.add(call, rooms.len() as u64);
         for (source_room, listing_room) in rooms {
-            let expected = expected(call, source_room, listing_room);
+            let expected = rules.patch(call, source_room, listing_room);
             let said = called(&mut ours, call, source_room, listing_room);
             assert!(said == expected, "{}\nlent {source_room} and {listing_room} bytes\nexpected {expected:?}\nsaid {said:?}", shown(call));
         }
@@ -372,10 +247,16 @@ fn line_starts(source: &[u8]) -> Vec<usize> {
     std::iter::once(0).chain((1..=source.len()).filter(|at| source[at - 1] == b'\n')).collect()
 }
 
-/// Demand 3, with no oracle between: on accepted sources, each of their lines and random texts, some with a byte above 127 or as long as a
+/// Demand 3, with no model between: on accepted sources, each of their lines and random texts, some with a byte above 127 or as long as a
 /// source may be, the patch answers as the full read of the edited source does, lent as many bytes for the listing; or it is refused with
-/// 40, and then a line of the proviso leaves a `times` open. Gives the calls, how many of them were accepted, refused as the full read, and refused with 40.
-pub fn as_full_read(count: u64, mut ours: impl Patch, mut full_read: impl FnMut(&[u8], &mut [u8]) -> Result<usize, Refusal>) -> [u64; 4] {
+/// 40, and then a line of the proviso leaves a `times` open. Gives the calls, how many of them were accepted, refused as the full read, and
+/// refused with 40.
+pub fn as_full_read(
+    rules: Rules,
+    count: u64,
+    mut ours: impl Patch,
+    mut full_read: impl FnMut(&[u8], &mut [u8]) -> Result<usize, Refusal>,
+) -> [u64; 4] {
     let (mut random, mut met) = (Random::new(7), [0; 4]);
     while met[0] < count {
         let mut source = Vec::new();
@@ -391,7 +272,10 @@ pub fn as_full_read(count: u64, mut ours: impl Patch, mut full_read: impl FnMut(
             let text = match random.below(6) {
                 0 => Vec::new(),
                 1 => sources::changed(&mut random, &source),
-                2 => random.of(&["times 2", "times 2 nop", "\t; bare", "k equ *5", "dw 0abh", "db 'open", "rep"]).as_bytes().to_vec(),
+                2 => random
+                    .of(&["times 2", "times 2 nop", "\t; bare", "k equ *5", "dw 0abh", "db 'open", "rep", "w dw 65536", "db 256,2b"])
+                    .as_bytes()
+                    .to_vec(),
                 _ => sources::grammar(&mut random),
             };
             let mut text = text.split(|b| *b == b'\n').next().unwrap().to_vec();
@@ -402,7 +286,7 @@ pub fn as_full_read(count: u64, mut ours: impl Patch, mut full_read: impl FnMut(
                 text.resize(65536 - source.len() + random.below(2 * source.len() + 1), b' ');
             }
             let call = Call { source: &source, listing: &room[..length], place, text: &text };
-            let (end, edited) = (line_end(&source, place), edited(&call));
+            let edited = edited(&call);
             let mut enough = vec![0; 18 * edited.len()];
             let most = full_read(&edited, &mut enough).unwrap_or(0);
             let lent = match random.below(4) {
@@ -415,7 +299,7 @@ pub fn as_full_read(count: u64, mut ours: impl Patch, mut full_read: impl FnMut(
             let said = called(&mut ours, &call, edited.len() + random.below(2), lent);
             met[0] += 1;
             if said == Err(Refusal::at(40, 0, 0)) {
-                assert!(open_beside(&call, end), "{}\nrefused with 40, and no line leaves a `times` open", shown(&call));
+                assert!(open_beside(&rules, &call), "{}\nrefused with 40, and no line leaves a `times` open", shown(&call));
                 met[3] += 1;
                 continue;
             }
@@ -426,15 +310,9 @@ pub fn as_full_read(count: u64, mut ours: impl Patch, mut full_read: impl FnMut(
     met
 }
 
-/// Whether the replaced line, the new one, or the nearest above that has more leaves a `times` open.
-fn open_beside(call: &Call, end: usize) -> bool {
-    let above = call.source[..call.place].split(|b| *b == b'\n').rev().skip(1).find(|line| !blank(line));
-    [Some(&call.source[call.place..end]), Some(call.text), above].into_iter().flatten().any(leaves_times_open)
-}
-
 /// Listings damaged in every place: each byte changed, each prefix, each record left out, doubled or exchanged with the next. The patch
 /// refuses with 41 just those that aren't well-formed; the others it treats by its rule. Gives the calls and how many were refused so.
-pub fn damaged(mut ours: impl Patch) -> (u64, u64) {
+pub fn damaged(rules: Rules, mut ours: impl Patch) -> (u64, u64) {
     let (mut compared, mut refused) = (0, 0);
     let source = b"k equ -1+2*3\nstart: mov ax,[bx+4]\nes: jmp 1:2\n times 2 times $$-$ db 'ab',3\nmov byte [ds:k],al\nw dw 1, 2\nrep\n";
     let pieces = [
@@ -450,12 +328,12 @@ pub fn damaged(mut ours: impl Patch) -> (u64, u64) {
     let mut list = vec![pieces.concat().into_bytes(), source.to_vec()];
     list.extend(pieces.iter().map(|piece| piece.as_bytes().to_vec()));
     for source in list {
-        let listing = limits::read(&source).unwrap();
+        let listing = read(&source).unwrap();
         let starts = line_starts(&source);
         let mut tried = |listing: &[u8]| {
             for place in [starts[starts.len() / 2], starts[0]] {
                 let call = Call { source: &source, listing, place, text: b"nop" };
-                let expected = expected(&call, 65536, 65536);
+                let expected = rules.patch(&call, 65536, 65536);
                 let said = called(&mut ours, &call, 65536, 65536);
                 assert!(said == expected, "{}\nexpected {expected:?}\nsaid {said:?}", shown(&call));
                 compared += 1;
@@ -471,12 +349,7 @@ pub fn damaged(mut ours: impl Patch) -> (u64, u64) {
                 tried(&other);
             }
         }
-        // the bytes of each record
-        let mut list: Vec<&[u8]> = Vec::new();
-        for record in records(&listing).unwrap() {
-            let at = list.iter().map(|bytes| bytes.len()).sum::<usize>();
-            list.push(&listing[at..at + 2 + 4 * record.fields.len() + record.data.len()]);
-        }
+        let list = split(&listing);
         for at in 0..list.len() {
             let other = [&list[..at], &list[at + 1..]].concat();
             tried(&other.concat());
@@ -493,12 +366,17 @@ pub fn damaged(mut ours: impl Patch) -> (u64, u64) {
 }
 
 /// The order of the refusals: a call with each set of causes at once is refused by the first of them. Gives the calls.
-pub fn order(mut ours: impl Patch) -> u64 {
-    // 23 stands for the reading.
-    const ORDER: [u8; 9] = [42, 43, 1, 2, 41, 40, 23, 6, 4];
+pub fn order(rules: Rules, mut ours: impl Patch) -> u64 {
+    let wide = rules.counts_fit.then_some((60, "b db 256"));
+    [(23, "b db ,,")].into_iter().chain(wide).map(|(reading, text)| order_with(reading, text, &mut ours)).sum()
+}
+
+/// The same with one refusal of the reading, which a text has.
+fn order_with(reading: u8, refused: &str, ours: &mut impl Patch) -> u64 {
+    let order = [42, 43, 1, 2, 41, 40, reading, 6, 4];
     let mut compared = 0;
-    for causes in 0..1 << ORDER.len() {
-        let has = |number: u8| causes >> ORDER.iter().position(|n| *n == number).unwrap() & 1 == 1;
+    for causes in 0..1 << order.len() {
+        let has = |number: u8| causes >> order.iter().position(|n| *n == number).unwrap() & 1 == 1;
         // Three ways to leave a `times` open.
         for open in ["replaced", "new", "above"] {
             let way = |name| has(40) && open == name;
@@ -506,13 +384,10 @@ pub fn order(mut ours: impl Patch) -> u64 {
             // The full read refuses the second with 2 and not with 34; its byte above 127 is not in the edited source.
             let replaced: &[u8] = if way("replaced") { b"times 2" } else { b"times 2;\xc8" };
             let source = [above.as_bytes(), replaced, b"\nc db 3\n"].concat();
-            let mut text = b"b db 4".to_vec();
-            if has(23) {
-                text = b"b db ,,".to_vec();
-            }
+            let mut text = if has(reading) { refused.as_bytes().to_vec() } else { b"b db 4".to_vec() };
             if way("new") {
                 // 34 comes first where both are in the new line
-                text = if has(23) { continue } else { b"b times 2".to_vec() };
+                text = if has(reading) { continue } else { b"b times 2".to_vec() };
             }
             if has(43) {
                 text.extend_from_slice(b"\nnop");
@@ -523,7 +398,7 @@ pub fn order(mut ours: impl Patch) -> u64 {
             if has(1) {
                 text.resize(65530, b' ');
             }
-            let mut listing = limits::read(b"a db 1\n").unwrap();
+            let mut listing = read(b"a db 1\n").unwrap();
             if has(41) {
                 listing.pop();
             }
@@ -533,8 +408,8 @@ pub fn order(mut ours: impl Patch) -> u64 {
             // a label and its data, above and in the new line
             let written = 2 * (6 + 10 + 6 + 15);
             let call = Call { source: &source, listing: &listing, place, text: &text };
-            let said = called(&mut ours, &call, edited - has(6) as usize, written - has(4) as usize);
-            let first = ORDER.into_iter().find(|number| has(*number));
+            let said = called(ours, &call, edited - has(6) as usize, written - has(4) as usize);
+            let first = order.into_iter().find(|number| has(*number));
             let number = said.as_ref().err().map(|refusal| refusal.number);
             assert!(number == first, "{}\ncauses {causes:b}: expected {first:?}, said {said:?}", shown(&call));
             compared += 1;

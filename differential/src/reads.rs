@@ -1,7 +1,10 @@
-//! Compares a full read with the expected one on a source: answer, bytes written, and what must be left as it was.
-use crate::answer::{shown, Answer};
+//! Compares full reads and statement reads with the model's: answer, bytes written, and what must be left as it was; and the model's with
+//! the original's.
+use crate::answer::{shown, Answer, Met};
+#[cfg(original)]
+use crate::departures::Asked;
 use crate::lent::{fill, left};
-use crate::limits;
+use crate::model::Rules;
 use crate::sources;
 use laqhoncu::{Refusal, Statement};
 
@@ -18,21 +21,33 @@ pub struct Count {
 }
 
 pub struct Compare<F> {
+    rules: Rules,
     ours: F,
     buffer: Vec<u8>,
     pub count: Count,
-    /// How often each refusal was expected: a comparison that never meets one says nothing of it.
-    pub refusals: [u64; 64],
+    pub met: Met,
+    #[cfg(original)]
+    pub asked: Asked,
 }
 
 impl<F: FullRead> Compare<F> {
-    pub fn new(ours: F) -> Self {
-        Self { ours, buffer: Vec::new(), count: Count::default(), refusals: [0; 64] }
+    pub fn new(rules: Rules, ours: F) -> Self {
+        Self {
+            rules,
+            ours,
+            buffer: Vec::new(),
+            count: Count::default(),
+            met: Met::default(),
+            #[cfg(original)]
+            asked: Asked::default(),
+        }
     }
 
     /// Panics with both answers where they differ.
     pub fn source(&mut self, source: &[u8]) {
-        let expected = limits::read(source);
+        let expected = self.rules.full_read(source);
+        #[cfg(original)]
+        self.asked.full_read(source);
         self.count.sources += 1;
         match &expected {
             Ok(listing) => {
@@ -40,7 +55,7 @@ impl<F: FullRead> Compare<F> {
                 self.count.records_bytes += listing.len() as u64;
                 assert!(listing.len() <= 18 * source.len(), "a listing above 18 times its source: {:?}", source);
             }
-            Err(refusal) => self.refusals[refusal.number as usize] += 1,
+            Err(refusal) => self.met.add(refusal),
         }
         self.with_room(source, &expected, 18 * source.len() + 3);
         if let Ok(listing) = &expected {
@@ -76,20 +91,35 @@ pub type StatementAnswer = Result<Option<Statement>, Refusal>;
 
 /// Compares a statement read with the expected one at places of a source.
 pub struct CompareStatements<F> {
+    rules: Rules,
     ours: F,
     pub reads: u64,
     pub written: u64,
     pub none_left: u64,
+    pub met: Met,
+    #[cfg(original)]
+    pub asked: Asked,
 }
 
 impl<F: FnMut(&[u8], usize, &mut [u8]) -> StatementAnswer> CompareStatements<F> {
-    pub fn new(ours: F) -> Self {
-        Self { ours, reads: 0, written: 0, none_left: 0 }
+    pub fn new(rules: Rules, ours: F) -> Self {
+        Self {
+            rules,
+            ours,
+            reads: 0,
+            written: 0,
+            none_left: 0,
+            met: Met::default(),
+            #[cfg(original)]
+            asked: Asked::default(),
+        }
     }
 
     /// Panics with both answers where they differ.
     pub fn at(&mut self, source: &[u8], place: usize) {
-        let expected = limits::read_statement(source, place);
+        let expected = self.rules.statement_read(source, place);
+        #[cfg(original)]
+        self.asked.statement_read(source, place);
         self.reads += 1;
         match &expected {
             Ok(Some((listing, _))) => {
@@ -98,7 +128,10 @@ impl<F: FnMut(&[u8], usize, &mut [u8]) -> StatementAnswer> CompareStatements<F> 
                 self.with_room(source, place, &Err(Refusal::at(4, 0, 0)), listing.len() - 1);
             }
             Ok(None) => self.none_left += 1,
-            Err(_) => self.with_room(source, place, &expected, 0),
+            Err(refusal) => {
+                self.met.add(refusal);
+                self.with_room(source, place, &expected, 0);
+            }
         }
         self.with_room(source, place, &expected, 18 * source.len() + 3);
     }
@@ -132,7 +165,7 @@ impl<F: FnMut(&[u8], usize, &mut [u8]) -> StatementAnswer> CompareStatements<F> 
     }
 }
 
-/// Runs `f` on a stack on which the original's recursion has room.
+/// Runs `f` on a stack on which the recursion of the original and of the model has room.
 pub fn on_a_large_stack<T: Send>(f: impl FnOnce() -> T + Send) -> T {
     std::thread::scope(|scope| {
         let thread = std::thread::Builder::new().stack_size(1 << 30).spawn_scoped(scope, f).unwrap();

@@ -46,6 +46,18 @@ pub fn read_of(answer: &Answer) -> String {
     shown(answer).trim_end().replace('\n', "; ")
 }
 
+/// What is recorded of a full read: the original's answer, or the model's at the limits 3 and 5, which the original doesn't have; nothing
+/// where a request parts from the original.
+#[cfg(original)]
+pub fn from_original(source: &[u8]) -> Option<Answer> {
+    use crate::{departures, model::Rules, original};
+    match departures::left_out(source) {
+        None => Some(original::read(source)),
+        Some(why) if why.of_a_request() => None,
+        Some(_) => Some(Rules::BASE.full_read(source)),
+    }
+}
+
 /// The answer where a listing may take 65,536 bytes, as the program `listing` lends.
 pub fn in_room(answer: Answer) -> Answer {
     answer.and_then(|listing| if listing.len() > 65536 { Err(Refusal::at(4, 0, 0)) } else { Ok(listing) })

@@ -1,4 +1,5 @@
-//! What the rules themselves say of sources: their samples, and the limits that are not the original's.
+//! What the rules themselves say of sources: their samples, the limits that are not the original's, and where document 02 parts from
+//! document 01.
 
 /// Sources and answers, each answer on one line as in the recorded ones; a listing may take 65,536 bytes.
 pub fn samples() -> Vec<(Vec<u8>, String)> {
@@ -8,7 +9,7 @@ pub fn samples() -> Vec<(Vec<u8>, String)> {
         ("equ -1+2*3", "ST 0; VC 5 6 1; PF 4 6 1; VC 7 8 2; VC 9 10 3; IN 7 10 2; IN 4 10 0; LC 0 10; END 8"),
         ("equ 8/4/2", "ST 0; VC 4 5 8; VC 6 7 4; IN 4 7 3; VC 8 9 2; IN 4 9 3; LC 0 9; END 7"),
         ("equ $$", "ST 0; VS 4 5; LC 0 6; END 3"),
-        ("dw 70000", "ST 0; LD 0 8 2 112 17; END 2"),
+        ("dw 70000", "REF 60 3 8 255 255"),
         ("db ,,", "REF 23 0 2 255 255"),
         ("jmp 1:2", "ST 0; VC 4 5 1; VC 6 7 2; OF 4 7; LI 0 7 59 1 4 7; END 5"),
         ("mov [ ax],bx", "REF 25 6 5 8 255"),
@@ -25,6 +26,7 @@ pub fn samples() -> Vec<(Vec<u8>, String)> {
     ]
     .map(|(source, answer)| (source.as_bytes().to_vec(), answer.to_string()))
     .to_vec();
+    list.extend(wide().map(|(source, answer)| (source.as_bytes().to_vec(), answer.to_string())));
     let nested = |depth| format!("equ {}1{}", "(".repeat(depth), ")".repeat(depth)).into_bytes();
     list.extend([
         (nested(31), "ST 0; VC 35 36 1; LC 0 67; END 3".to_string()),
@@ -36,4 +38,46 @@ pub fn samples() -> Vec<(Vec<u8>, String)> {
         ("in-1\n".repeat(937).into_bytes(), "REF 4 0 0 255 255".to_string()),
     ]);
     list
+}
+
+/// Document 02, Ask 1: numbers at the edges of `db` and `dw`, and 60 before and behind the other refusals of a line.
+fn wide() -> [(&'static str, &'static str); 31] {
+    [
+        ("db 255", "ST 0; LD 0 6 1 255; END 2"),
+        ("dw 65535", "ST 0; LD 0 8 2 255 255; END 2"),
+        ("dw 256", "ST 0; LD 0 6 2 0 1; END 2"),
+        ("db 256", "REF 60 3 6 255 255"),
+        ("dw 65536", "REF 60 3 8 255 255"),
+        ("DB 2147483647", "REF 60 3 13 255 255"),
+        // in each way to write a number
+        ("db 0x100", "REF 60 3 8 255 255"),
+        ("db 100h", "REF 60 3 7 255 255"),
+        ("db 0000256", "REF 60 3 10 255 255"),
+        ("db 0b100000000", "REF 60 3 14 255 255"),
+        ("db 400o", "REF 60 3 7 255 255"),
+        ("db 256d", "REF 60 3 7 255 255"),
+        // wherever a data line stands
+        ("times 2 db 256", "REF 60 11 14 255 255"),
+        ("a: db 1,'x',256", "REF 60 12 15 255 255"),
+        // before any later token is read
+        ("db 256,12b", "REF 60 3 6 255 255"),
+        ("db 256 0x80000000", "REF 60 3 6 255 255"),
+        ("db 256 'x", "REF 60 3 6 255 255"),
+        ("db 256 a", "REF 60 3 6 255 255"),
+        ("db ,,256", "REF 60 5 8 255 255"),
+        ("db '',256", "REF 60 6 9 255 255"),
+        // behind 30, 31 and whatever comes first
+        ("db 1,12b,256", "REF 30 5 8 255 255"),
+        ("db 2560abh", "REF 30 3 9 255 255"),
+        ("db 0x80000000", "REF 31 3 13 255 255"),
+        ("db 2147483648", "REF 15 3 4 255 255"),
+        ("db a,256", "REF 15 3 4 255 255"),
+        ("db -256", "REF 15 3 4 255 255"),
+        ("db 'x,256", "REF 26 3 9 255 255"),
+        // in no other statement, and no text
+        ("equ 70000", "ST 0; VC 4 9 70000; LC 0 9; END 3"),
+        ("times 70000 a", "ST 0; VC 6 11 70000; LL 12 13; LT 0 0; END 4"),
+        ("in db,256", "ST 0; VL 3 5; OI 3 5; VC 6 9 256; OI 6 9; LI 0 9 4 2 3 9; END 6"),
+        ("dw 'ab'", "ST 0; LD 0 7 2 97 98; END 2"),
+    ]
 }

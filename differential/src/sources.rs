@@ -1,7 +1,7 @@
-//! Sources to compare on: all short ones over telling pieces, random ones by the grammar, changed ones, noise, and sources at
-//! the limits.
+//! Sources to compare on: all short ones over telling pieces, data lines, random ones by the grammar, changed ones, noise, and
+//! sources at the limits.
 
-/// Every source of the usual comparison of full reads: about a million, and more by `scale`.
+/// Every source of the usual comparison of full reads: over a million, and more by `scale`.
 pub fn all(scale: u64, f: &mut impl FnMut(&[u8])) {
     let extra = (scale > 1) as usize;
     each(&TELLING_BYTES, 3 + extra, f);
@@ -16,6 +16,9 @@ pub fn all(scale: u64, f: &mut impl FnMut(&[u8])) {
         });
     }
     behind_causes(f);
+    data_rows(3 + extra, f);
+    data_numbers(f);
+    data_lines(f);
     long(f);
     let mut random = Random::new(1);
     for _ in 0..200_000 * scale {
@@ -99,6 +102,12 @@ const NUMBERS: [&str; 26] = [
     "0", "1", "10", "255", "256", "65535", "65536", "70000", "2147483647", "2147483648", "0x1F", "0x7fffffff", "0x80000000",
     "0b101", "0o17", "0d9", "101b", "17o", "12h", "0FFh", "0abh", "10bh", "99999999999", "12a", "0B", "0x",
 ];
+/// Numbers that a byte holds, and numbers that a word holds beside them.
+const BYTES: [&str; 12] = ["0", "1", "7", "10", "127", "255", "0x1F", "0b101", "17o", "0d9", "0FFh", "011b"];
+const WORDS: [&str; 8] = ["256", "4464", "65535", "0xFFFF", "0FFFFh", "177777o", "0x100", "1000d"];
+/// Numbers at the edges of both, and beyond.
+const EDGES: [&str; 12] =
+    ["255", "256", "0x100", "100h", "400o", "0b100000000", "65535", "65536", "0x10000", "10000H", "00065536d", "2147483647"];
 const STRINGS: [&str; 8] = ["'c'", "''", "'ab'", "' '", "'weld 12'", "';'", "'open", "'\"'"];
 const BLANKS: [&str; 6] = [" ", "  ", "\t", "\r", " \t ", ""];
 
@@ -130,10 +139,11 @@ fn statement(random: &mut Random, text: &mut String, nesting: usize) {
             *text += random.of(&[":", " :", "", " "]);
         }
         1 | 2 => {
-            *text += random.of(&["db", "dw", "DB", "Dw"]);
+            let word = random.of(&["db", "dw", "DB", "Dw"]);
+            *text += word;
             for _ in 0..random.below(5) {
                 *text += random.of(&[" ", ",", " , ", ",,", ""]);
-                *text += &number_or_string(random);
+                *text += datum(random, word.ends_with(['w', 'W']));
             }
         }
         3 | 4 => {
@@ -158,6 +168,17 @@ fn statement(random: &mut Random, text: &mut String, nesting: usize) {
         }
     }
     blank(random, text);
+}
+
+/// A literal of a data line: mostly one that fits, seldom any number or one at the edges, so that most lines are read.
+fn datum(random: &mut Random, wide: bool) -> &'static str {
+    match random.below(24) {
+        0 => random.of(&NUMBERS),
+        1 => random.of(&EDGES),
+        2..=8 => random.of(&STRINGS),
+        9..=14 if wide => random.of(&WORDS),
+        _ => random.of(&BYTES),
+    }
 }
 
 fn number_or_string(random: &mut Random) -> String {
@@ -293,6 +314,9 @@ pub fn causes() -> Vec<String> {
         "equ *", "equ /", "equ 1**", "equ (/", "equ -*", "mov *", "mov ax,*", "mov [1+*", "mov [bx*", "times *", "db", "db ", "dw ,",
         "db ''", "db '',", "mov []", "mov [", "mov [.", "mov [+1]", "mov [$]", "mov [']", "mov [ax", "mov [ ax]", "mov [es:al", "mov [es: cx]",
         "mov [bx+bx", "mov [si+ax]", "mov [bp+cl]", "db 'a", "db 1,'",
+        // 60, and numbers that just fit
+        "db 256", "dw 65536", "db 1,256", "db 'a' 0x100", "DW ,70000", "times 2 db 256", "a: dw 2147483647", "db 255", "dw 65535",
+        "in db,256",
         // 32 to 34
         "mov [es:]", "mov ax,[ ds : ]", "mov [es:],ax", "mov [es:", "mov [si+si", "mov [si+di", "mov [di + si]", "mov [es:di+di",
         "times 1", "times 1 times 2", "times times", "times 1\ntimes 2\n", "times 1 ;c",
@@ -315,7 +339,7 @@ pub fn causes() -> Vec<String> {
     }
     for count in [15, 16, 17] {
         for unit in ["times 1 ", "times 1\n", "times 1 ;\n\n", "TIMES times\n"] {
-            for tail in ["", "a", "times", "times ", "times *", "a\ntimes 1 b", "5"] {
+            for tail in ["", "a", "times", "times ", "times *", "a\ntimes 1 b", "5", "db 256", "db 256,2b"] {
                 list.push(unit.repeat(count) + tail);
             }
         }
@@ -342,10 +366,73 @@ pub fn behind_causes(f: &mut impl FnMut(&[u8])) {
     }
 }
 
+/// Every short row behind the words of a data line, labels and `times` before them, and behind words that are none: numbers that fit and
+/// that don't, and each other refusal that a data line can meet.
+fn data_rows(most: usize, f: &mut impl FnMut(&[u8])) {
+    #[rustfmt::skip]
+    let heads = [
+        "db", "DW", "a: Dw", "a db", "times 2 dB", "Times 1+1\n\ntimes 'c' dw", "times 'ab' db", "times 'c db", "times 256 dw 1\n db",
+        "in db", "equ db",
+    ];
+    #[rustfmt::skip]
+    let pieces: [&[u8]; 19] = [
+        b" 255", b",256", b" 256", b",65535", b" 65536", b" 0x100", b",10000h", b" 12b", b",0x80000000", b" 2147483648", b",a", b" 'x'",
+        b",''", b" 'x", b",", b"-", b"\n", b" ;256", b" db",
+    ];
+    let mut text = Vec::new();
+    for head in heads {
+        each(&pieces, most, &mut |rest| {
+            text.clear();
+            text.extend_from_slice(head.as_bytes());
+            text.extend_from_slice(rest);
+            f(&text)
+        });
+    }
+}
+
+/// Numbers at the edges of `db` and `dw`, in each way to write a number, with a refused number or nothing behind.
+fn data_numbers(f: &mut impl FnMut(&[u8])) {
+    for value in [0u32, 1, 254, 255, 256, 257, 511, 65534, 65535, 65536, 65537, 70000, 2147483646, 2147483647, 2147483648] {
+        for zeros in ["", "0", "000"] {
+            let mut spelled = vec![format!("{zeros}{value}")];
+            let [binary, octal, decimal] = [format!("{zeros}{value:b}"), format!("{zeros}{value:o}"), format!("{zeros}{value}")];
+            let (lower, upper) = (format!("{zeros}{value:x}"), format!("{zeros}{value:X}"));
+            spelled.extend([
+                format!("0b{binary}"),
+                format!("0o{octal}"),
+                format!("0d{decimal}"),
+                format!("0x{lower}"),
+                format!("0x{upper}"),
+            ]);
+            spelled.extend([format!("{binary}b"), format!("{octal}o"), format!("{decimal}d"), format!("{lower}h"), format!("0{upper}h")]);
+            spelled.extend([format!("{binary}B"), format!("{octal}O"), format!("{decimal}D"), format!("0{lower}H"), format!("{upper}H")]);
+            for number in spelled {
+                for word in ["db", "DB", "dw", "Dw"] {
+                    for (head, tail) in [("", ""), ("a: ", ",1"), ("times 2 ", " 12b"), ("times 2\ntimes 3 ", "\n0x80000000")] {
+                        f(format!("{head}{word} {number}{tail}").as_bytes());
+                    }
+                }
+            }
+        }
+    }
+}
+
+/// Every row of up to three lines, some with a wide number, some with another refusal.
+fn data_lines(f: &mut impl FnMut(&[u8])) {
+    let deep = format!("equ {}1\n", "-".repeat(32));
+    #[rustfmt::skip]
+    let lines: [&[u8]; 21] = [
+        b"db 256\n", b"dw 65536\n", b"db 1\n", b"a: dw 70000\n", b"times 2 db 256\n", b"times 'ab' db 256\n", b"equ 'ab'\n", b"equ 'c\n",
+        b"db\n", b"DW ,''\n", b"db 'x\n", b"db a\n", b"dw 12b\n", b"dw 0x80000000\n", b"equ 70000\n", b"times 2\n", b"db 1,256 ;c\n",
+        b"in db,256\n", b"\n", b"db 2147483648\n", deep.as_bytes(),
+    ];
+    each(&lines, 3, f);
+}
+
 /// Long sources: at and around 65,536 bytes, deep beyond every limit, long rows of one thing.
 pub fn long(f: &mut impl FnMut(&[u8])) {
     for length in [65535, 65536, 65537, 70000] {
-        for unit in ["a", "\n", " ", ";", "a\n", "in-1\n", "nop\n", "db 1\n", "times 1 a\n", "equ 1+2*3\n"] {
+        for unit in ["a", "\n", " ", ";", "a\n", "in-1\n", "nop\n", "db 1\n", "dw 65535\n", "times 1 a\n", "equ 1+2*3\n"] {
             let mut text = unit.repeat(length / unit.len() + 1);
             text.truncate(length);
             f(text.as_bytes());
@@ -359,6 +446,7 @@ pub fn long(f: &mut impl FnMut(&[u8])) {
         f(format!("equ {}1", "-".repeat(count)).as_bytes());
         f(format!("db {}", "1,".repeat(count)).as_bytes());
         f(format!("db '{}'", "x".repeat(count)).as_bytes());
+        f(format!("{}dw 65536", "dw 65535\n".repeat(count / 2)).as_bytes());
         f("times 1 ".repeat(count / 20).as_bytes());
         f("1".repeat(count / 4).as_bytes());
         f("'".repeat(count / 4).as_bytes());

@@ -1,5 +1,8 @@
-//! Compares a token read with the original's `Cursor::next_token`.
-use crate::original;
+//! Compares a token read with the model's, and the model's with the original's `Cursor::next_token`.
+use crate::answer::Met;
+#[cfg(original)]
+use crate::departures::Asked;
+use crate::model::Rules;
 use crate::sources::{self, Random};
 use laqhoncu::{Refusal, Token, TokenKind};
 
@@ -8,19 +11,32 @@ pub trait TokenRead: FnMut(&[u8], usize) -> Result<Token, Refusal> {}
 impl<F: FnMut(&[u8], usize) -> Result<Token, Refusal>> TokenRead for F {}
 
 pub struct Compare<F> {
+    rules: Rules,
     ours: F,
     pub sources: u64,
     pub tokens: u64,
-    pub refused: [u64; 2],
+    pub met: Met,
+    #[cfg(original)]
+    pub asked: Asked,
 }
 
 impl<F: TokenRead> Compare<F> {
-    pub fn new(ours: F) -> Self {
-        Self { ours, sources: 0, tokens: 0, refused: [0, 0] }
+    pub fn new(rules: Rules, ours: F) -> Self {
+        Self {
+            rules,
+            ours,
+            sources: 0,
+            tokens: 0,
+            met: Met::default(),
+            #[cfg(original)]
+            asked: Asked::default(),
+        }
     }
 
     fn at(&mut self, source: &str, place: usize) -> Result<Token, Refusal> {
-        let expected = original::token_at(source, place);
+        let expected = self.rules.token(source.as_bytes(), place);
+        #[cfg(original)]
+        self.asked.token(source, place);
         let said = (self.ours)(source.as_bytes(), place);
         assert!(said == expected, "{source:?} at {place}\nexpected {expected:?}\nsaid     {said:?}");
         self.tokens += 1;
@@ -29,13 +45,13 @@ impl<F: TokenRead> Compare<F> {
 
     /// The tokens of a source in turn, the end of file among them, up to a refused number. Panics where the two differ.
     pub fn source(&mut self, source: &[u8]) {
-        let source = std::str::from_utf8(source).expect("the original reads characters");
+        let source = std::str::from_utf8(source).expect("ASCII");
         self.sources += 1;
         let mut place = 0;
         loop {
             let token = match self.at(source, place) {
                 Ok(token) => token,
-                Err(refusal) => return self.refused[refusal.number as usize - 30] += 1,
+                Err(refusal) => return self.met.add(&refusal),
             };
             if token.kind == TokenKind::EndOfFile {
                 return assert_eq!(place, source.len(), "an end of file before the end: {source:?}");
@@ -47,7 +63,7 @@ impl<F: TokenRead> Compare<F> {
 
     /// The token at every place of a source, the inside of tokens among them.
     pub fn every_place(&mut self, source: &[u8]) {
-        let source = std::str::from_utf8(source).expect("the original reads characters");
+        let source = std::str::from_utf8(source).expect("ASCII");
         self.sources += 1;
         for place in 0..=source.len() {
             let _ = self.at(source, place);
@@ -94,39 +110,35 @@ impl<F: TokenRead> Compare<F> {
             self.source(&source);
         }
     }
-}
 
-/// What the token read at a place answers: 42, 1 and 2 come before the token.
-pub fn call(source: &[u8], place: usize) -> Result<Token, Refusal> {
-    if place > source.len() {
-        return Err(Refusal::at(42, 0, 0));
-    }
-    original::token_at(original::lent(source)?, place)
-}
-
-/// Compares the token read at places of a source, beyond its end too. Gives how many calls there were, and how often each refusal.
-pub fn calls(mut ours: impl TokenRead) -> (u64, [u64; 64]) {
-    let (mut count, mut met, mut turn) = (0, [0; 64], 0);
-    let mut at = |source: &[u8], place: usize| {
-        let (expected, said) = (call(source, place), ours(source, place));
+    /// A call, which tests the place and the source before it reads the token. Panics where the two differ.
+    fn call(&mut self, source: &[u8], place: usize) {
+        let (expected, said) = (self.rules.token_read(source, place), (self.ours)(source, place));
         let text = String::from_utf8_lossy(source);
         assert!(said == expected, "{text:?} at {place}\nexpected {expected:?}\nsaid     {said:?}");
-        count += 1;
+        #[cfg(original)]
+        if place <= source.len() && crate::departures::unreadable(source).is_none() {
+            self.asked.token(&text, place);
+        }
+        self.tokens += 1;
         if let Err(refusal) = expected {
-            met[refusal.number as usize] += 1;
+            self.met.add(&refusal);
         }
-    };
-    sources::all(1, &mut |source| {
-        turn += 1;
-        if source.len() > 4096 {
-            let end = source.len();
-            [0, 1, end / 2, end - 1, end, end + 1, usize::MAX].into_iter().for_each(|place| at(source, place));
-        } else if turn % 16 == 0 && source.len() < 64 {
-            (0..source.len() + 3).for_each(|place| at(source, place));
-            at(source, usize::MAX);
-        }
-    });
-    (count, met)
+    }
+
+    /// Calls at places of many sources, and beyond their ends.
+    pub fn calls(&mut self) {
+        let mut turn = 0;
+        sources::all(1, &mut |source| {
+            turn += 1;
+            if source.len() > 4096 {
+                let end = source.len();
+                [0, 1, end / 2, end - 1, end, end + 1, usize::MAX].into_iter().for_each(|place| self.call(source, place));
+            } else if turn % 16 == 0 && source.len() < 64 {
+                (0..source.len() + 3).chain([usize::MAX]).for_each(|place| self.call(source, place));
+            }
+        });
+    }
 }
 
 fn repeated(unit: &str, length: usize) -> Vec<u8> {

@@ -1,19 +1,7 @@
 //! Compares `evaluate` with exact arithmetic in 64 bits.
+use crate::model;
 use crate::sources::Random;
 use laqhoncu::{Operator, Refusal};
-
-/// What the rules say: the exact result, 50 beyond 32 signed bits, 51 for a zero divisor.
-pub fn expected(operator: Operator, left: i32, right: i32) -> Result<i32, Refusal> {
-    let (a, b) = (left as i64, right as i64);
-    let exact = match operator {
-        Operator::Add => a + b,
-        Operator::Subtract => a - b,
-        Operator::Multiply => a * b,
-        Operator::Divide if b == 0 => return Err(Refusal::at(51, 0, 0)),
-        Operator::Divide => a / b,
-    };
-    i32::try_from(exact).map_err(|_| Refusal::at(50, 0, 0))
-}
 
 const OPERATORS: [Operator; 4] = [Operator::Add, Operator::Subtract, Operator::Multiply, Operator::Divide];
 
@@ -21,7 +9,7 @@ const OPERATORS: [Operator; 4] = [Operator::Add, Operator::Subtract, Operator::M
 pub fn all(random_pairs: u64, mut ours: impl FnMut(Operator, i32, i32) -> Result<i32, Refusal>) -> (u64, [u64; 2]) {
     let (mut count, mut met) = (0, [0; 2]);
     let mut one = |operator: Operator, left: i32, right: i32| {
-        let expected = expected(operator, left, right);
+        let expected = model::evaluate(operator, left, right);
         let said = ours(operator, left, right);
         assert!(said == expected, "{left} {operator} {right}\nexpected {expected:?}\nsaid     {said:?}");
         count += 1;

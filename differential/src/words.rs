@@ -1,13 +1,18 @@
-//! Compares the lookup of words with the original's `from_str`.
+//! Compares the lookup of words with the model's, and the model's with the original's `from_str`.
 use crate::answer::Named;
-use crate::original::{register_of, segment_of, size_of};
-use laqhoncu::{Directive, Name};
-use mrc_compiler::ast::{DataSize, Register, Segment};
-use mrc_compiler::operations::Operation;
-use std::str::FromStr;
+#[cfg(original)]
+use crate::departures::Asked;
+use crate::model::{Rules, OPERATIONS};
 
 /// What the original makes of a word.
+#[cfg(original)]
 pub fn original(word: &str) -> Named {
+    use crate::original::{register_of, segment_of, size_of};
+    use laqhoncu::{Directive, Name};
+    use mrc_compiler::ast::{DataSize, Register, Segment};
+    use mrc_compiler::operations::Operation;
+    use std::str::FromStr;
+
     let name = if let Ok(register) = Register::from_str(word) {
         Some(Name::Register(register_of(&register)))
     } else if let Ok(segment) = Segment::from_str(word) {
@@ -26,8 +31,14 @@ pub fn original(word: &str) -> Named {
     Named { operation: Operation::from_str(word).ok().map(|operation| operation as u8), name, directive }
 }
 
-/// The spellings of operations, taken from the original's own text: the quoted words in its `from_str`.
+/// The spellings of operations, by the model's table.
 pub fn spellings() -> Vec<&'static str> {
+    OPERATIONS.iter().flat_map(|words| words.split(' ')).collect()
+}
+
+/// The same, taken from the original's own text: the quoted words in its `from_str`.
+#[cfg(original)]
+pub fn original_spellings() -> Vec<&'static str> {
     let text = mrc_compiler::OPERATIONS;
     let arms = &text[text.find("fn from_str").unwrap()..];
     arms.split('"').skip(1).step_by(2).collect()
@@ -44,19 +55,31 @@ pub trait Lookup: FnMut(&[u8]) -> Named {}
 impl<F: FnMut(&[u8]) -> Named> Lookup for F {}
 
 pub struct Compare<F> {
+    rules: Rules,
     ours: F,
     pub words: u64,
     pub named: u64,
+    #[cfg(original)]
+    pub asked: Asked,
 }
 
 impl<F: Lookup> Compare<F> {
-    pub fn new(ours: F) -> Self {
-        Self { ours, words: 0, named: 0 }
+    pub fn new(rules: Rules, ours: F) -> Self {
+        Self {
+            rules,
+            ours,
+            words: 0,
+            named: 0,
+            #[cfg(original)]
+            asked: Asked::default(),
+        }
     }
 
     /// Panics where the two differ.
     pub fn word(&mut self, word: &[u8]) {
-        let expected = original(std::str::from_utf8(word).unwrap());
+        let expected = self.rules.named(word);
+        #[cfg(original)]
+        self.asked.word(std::str::from_utf8(word).unwrap());
         let said = (self.ours)(word);
         assert!(said == expected, "{:?}\nexpected {expected:?}\nsaid     {said:?}", String::from_utf8_lossy(word));
         self.words += 1;

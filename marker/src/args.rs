@@ -46,7 +46,7 @@ marker edit [--force] FILE LINE TEXT
 
 Exchanges one line of a marker file for a text. The file is replaced at once by its
 edited form, or left as it was: where the edit is refused, the words say why. A file
-that is refused itself is to be mended in an editor first.
+that is refused itself is edited like any other if the line that goes is its only fault.
 
   FILE       a marker file; `-` reads standard input and writes the edited form to
              standard output

@@ -1,5 +1,5 @@
 //! A refusal as a person reads it: the file, the line and the column, the words, the line itself and a mark under the place.
-use laqhoncu::{Refusal, Span, TokenKind, listing, refusals, token};
+use laqhoncu::{Directive, Refusal, Span, TokenKind, directive, listing, refusals, token};
 
 /// The most bytes of a line that are shown; of a longer one, those round the place.
 const SHOWN: usize = 100;
@@ -16,6 +16,11 @@ pub fn line_start(source: &[u8], line: usize) -> Option<usize> {
 
 pub fn count_lines(source: &[u8]) -> usize {
     1 + source.iter().filter(|byte| **byte == b'\n').count()
+}
+
+/// Where the line begins that a place is in.
+fn start_of_line(source: &[u8], place: usize) -> usize {
+    source[..place].iter().rposition(|byte| *byte == b'\n').map_or(0, |feed| feed + 1)
 }
 
 /// The line that begins at a place, without its line feed.
@@ -40,24 +45,61 @@ fn invalid_prefix(source: &[u8]) -> Option<Span> {
     operators.get(operators.partition_point(is_before)).copied()
 }
 
+/// Refusal 60 with the number's value and the largest one that fits. The data word is the nearest name before the number: between them only
+/// literals and commas stand.
+fn too_wide(source: &[u8], number: Span) -> Option<String> {
+    let mut place = start_of_line(source, number.from);
+    let mut data_word = None;
+    while place < number.from {
+        let token = token(source, place).ok()?;
+        if token.kind == TokenKind::Identifier {
+            data_word = directive(&source[token.span.range()]);
+        }
+        place = token.span.to;
+    }
+    let TokenKind::Number(value) = token(source, number.from).ok()?.kind else { return None };
+    let (word, largest) = match data_word? {
+        Directive::Db => ("db", u8::MAX.into()),
+        Directive::Dw => ("dw", u16::MAX.into()),
+        _ => return None,
+    };
+    Some(format!("the number is {}, and `{word}` takes at most {}", grouped(value), grouped(largest)))
+}
+
+/// A number with a comma before each three digits.
+fn grouped(number: i32) -> String {
+    let (mut text, digits) = (String::new(), number.to_string());
+    for (i, digit) in digits.chars().enumerate() {
+        if i > 0 && (digits.len() - i) % 3 == 0 {
+            text.push(',');
+        }
+        text.push(digit);
+    }
+    text
+}
+
 /// The refusal of a source, or of one line of it as a source of its own, whose first line has the number `line`.
 pub fn refusal(name: &str, source: &[u8], line: usize, refused: &Refusal) -> String {
     let place = match refused.number {
         refusals::INVALID_PREFIX_OPERATOR => invalid_prefix(source),
         _ => refused.place(),
     };
+    let words = match (refused.number, place) {
+        (refusals::NUMBER_TOO_WIDE, Some(span)) => too_wide(source, span),
+        _ => None,
+    };
+    let words = words.unwrap_or_else(|| refused.to_string());
     match place {
-        None => format!("{name}: {refused}\n"),
-        Some(span) => at(name, source, line, span, &refused.to_string()),
+        None => format!("{name}: {words}\n"),
+        Some(span) => at(name, source, line, span, &words),
     }
 }
 
 /// Words about a span of a source, whose first line has the number `line`.
 pub fn at(name: &str, source: &[u8], line: usize, span: Span, words: &str) -> String {
     let from = span.from.min(source.len());
-    let above = &source[..from];
-    let start = above.iter().rposition(|byte| *byte == b'\n').map_or(0, |feed| feed + 1);
-    let (line, column) = (line + count_lines(above) - 1, from - start);
+    let start = start_of_line(source, from);
+    let (line, column) = (line + count_lines(&source[..from]) - 1, from - start);
     let text = line_at(source, start);
     format!("{name}:{line}:{}: {words}\n{}", column + 1, excerpt(text, column, span.to.saturating_sub(start)))
 }
@@ -120,6 +162,15 @@ mod tests {
         assert_eq!(said("a equ 2*3\nb equ 4/*5 ; 1/2\n*"), format!("f:2:9: {words}\n    b equ 4/*5 ; 1/2\n            ^\n"));
         assert_eq!(said("equ *5"), format!("f:1:5: {words}\n    equ *5\n        ^\n"));
         assert_eq!(said("times 2\n\ndw 1\nequ (/"), format!("f:4:6: {words}\n    equ (/\n         ^\n"));
+    }
+
+    #[test]
+    fn a_number_that_does_not_fit() {
+        let words = |source: &str| said(source).lines().next().unwrap().split_once(": ").unwrap().1.to_string();
+        assert_eq!(words("db 256"), "the number is 256, and `db` takes at most 255");
+        assert_eq!(words("dw 1\n; dw 2\ntimes 2\n dB 'dw' ,, 100h dw 3"), "the number is 256, and `db` takes at most 255");
+        assert_eq!(words("db 1\nw: DW 65536"), "the number is 65,536, and `dw` takes at most 65,535");
+        assert_eq!([7, 70, 700, 7000, 70000, i32::MAX].map(grouped), ["7", "70", "700", "7,000", "70,000", "2,147,483,647"]);
     }
 
     #[test]

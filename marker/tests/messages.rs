@@ -46,6 +46,10 @@ fn rows() -> Vec<Row> {
         row(31, "equ 0x80000000", 4, 14, "a number is above 2,147,483,647"),
         row(32, "mov ax,[es:]", 7, 12, "nothing stands behind the segment in the bracket"),
         row(33, "mov ax,[si+di]", 8, 13, "si or di cannot be added to si or di"),
+        row(60, "dw 70000", 3, 8, "the number is 70,000, and `dw` takes at most 65,535"),
+        row(60, "w1: db 255, 'db', 256 ; dw", 18, 21, "the number is 256, and `db` takes at most 255"),
+        row(60, "w2: DW 0,0FFFFFh,12b", 9, 16, "the number is 1,048,575, and `dw` takes at most 65,535"),
+        row(60, "times 70000 Db 0x7fffffff", 15, 25, "the number is 2,147,483,647, and `db` takes at most 255"),
     ]
 }
 
@@ -90,28 +94,70 @@ fn edit_marks_the_place_in_the_new_text_and_leaves_the_file() {
 }
 
 #[test]
-fn a_file_that_is_refused_itself_is_not_edited() {
+fn a_file_that_another_line_is_refused_for_is_not_edited() {
     let room = Room::new("itself");
     for (old, said) in [
         ("nop\nret\n  dw 0abh\n", report("f", 3, "  dw 0abh", (5, 8), "a binary number has a digit above 1")),
+        ("nop\ndw 70000\ndb 300\n", report("f", 2, "dw 70000", (3, 8), "the number is 70,000, and `dw` takes at most 65,535")),
         ("nop\ntimes 2\n", report("f", 2, "times 2", (0, 5), "`times` has no content")),
         ("nop\n\u{e9}", report("f", 2, "\u{e9}", (0, 1), "a character that is not ASCII")),
         (&" ".repeat(65_537), "f: a file may have at most 65,536 bytes\n".to_string()),
     ] {
         room.put("f", old);
+        room.run(["edit", "f", "1", "ret"]).is(1, "", &(said + "f: not edited: the file itself is refused, and is to be mended first\n"));
+        room.has_only_f(old, old.trim());
+    }
+    // The first line is refused for itself, and so is another.
+    for (old, said) in [
+        ("dw 70000\nnop\ndb 300\n", report("f", 3, "db 300", (3, 6), "the number is 300, and `db` takes at most 255")),
+        ("\u{e9}\n0abh", report("f", 2, "0abh", (0, 3), "a binary number has a digit above 1")),
+        // 22, which has no span, at both lines, and behind another
+        ("equ *5\nequ /6\n", report("f", 2, "equ /6", (4, 5), "`*` or `/` stands where a value should begin")),
+        ("db 256\nequ *5\n", report("f", 2, "equ *5", (4, 5), "`*` or `/` stands where a value should begin")),
+    ] {
+        room.put("f", old);
         room.run(["edit", "f", "1", "ret"]).is(
             1,
             "",
-            &(said + "f: not edited: the file itself is refused, and is to be mended in an editor first\n"),
+            &(said + "f: not edited: the file is refused there too, and is to be mended in an editor\n"),
         );
         room.has_only_f(old, old.trim());
     }
 }
 
 #[test]
+fn the_line_that_a_file_is_refused_for_can_be_exchanged() {
+    let room = Room::new("mended");
+    for (old, line, text, new) in [
+        ("nop\nw1: dw 70000\nret\n", "2", "w1: dw 7000", "nop\nw1: dw 7000\nret\n"),
+        ("nop\r\nw1: dw 70000\r\nret\r\n", "2", "w1: dw 7000", "nop\r\nw1: dw 7000\r\nret\r\n"),
+        ("dw 0abh", "1", "", ""),
+        ("; \u{e9}\nnop\n", "1", "; e", "; e\nnop\n"),
+        ("nop\ntimes 2\n", "2", "times 2 nop", "nop\ntimes 2 nop\n"),
+        ("equ *5\na\n", "1", "equ 5", "equ 5\na\n"),
+    ] {
+        room.put("f", old);
+        room.run(["edit", "f", line, text]).is(0, &format!("f: line {line} replaced\n"), "");
+        room.has_only_f(new, text);
+        // What is refused in its place is said of the new text, and the file is left.
+        room.put("f", old);
+        room.run(["edit", "f", line, "db 256"]).is(
+            1,
+            "",
+            &(report("f", line.parse().unwrap(), "db 256", (3, 6), "the number is 256, and `db` takes at most 255") + "f: not edited\n"),
+        );
+        room.has_only_f(old, text);
+    }
+}
+
+#[test]
 fn an_edit_that_leaves_times_open_names_the_line_that_does() {
     let room = Room::new("times");
+    let nested = "times 1\n".repeat(17) + "nop\n";
     for (old, line, text, place) in [
+        // The file itself is refused, for the line that goes.
+        ("times 2\ndw 70000\n", "2", "dw 7000", report("f", 1, "times 2", (0, 5), "the line above leaves `times` without its content")),
+        (&nested, "17", "nop", report("f", 16, "times 1", (0, 5), "the line above leaves `times` without its content")),
         ("nop\n\nret\n", "2", "times 2", report("f", 2, "times 2", (0, 5), "the new text leaves `times` without its content")),
         // The innermost `times` is the one without its content.
         ("nop\n", "2", "times 2 times 3", report("f", 2, "times 2 times 3", (8, 13), "the new text leaves `times` without its content")),
@@ -461,7 +507,8 @@ fn list_prints_the_samples_of_the_rules() {
         ("equ -1+2*3", "ST 0; VC 5 6 1; PF 4 6 1; VC 7 8 2; VC 9 10 3; IN 7 10 2; IN 4 10 0; LC 0 10"),
         ("equ 8/4/2", "ST 0; VC 4 5 8; VC 6 7 4; IN 4 7 3; VC 8 9 2; IN 4 9 3; LC 0 9"),
         ("equ $$", "ST 0; VS 4 5; LC 0 6"),
-        ("dw 70000", "ST 0; LD 0 8 2 112 17"),
+        ("dw 4464", "ST 0; LD 0 7 2 112 17"),
+        ("dw 65535\ndb 255", "ST 0; LD 0 8 2 255 255; ST 9; LD 9 15 1 255"),
         ("jmp 1:2", "ST 0; VC 4 5 1; VC 6 7 2; OF 4 7; LI 0 7 59 1 4 7"),
         ("equ 0x7fffffff", "ST 0; VC 4 14 2147483647; LC 0 14"),
     ] {

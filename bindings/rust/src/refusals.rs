@@ -45,6 +45,7 @@ refusals! {
     LINE_FEED_IN_TEXT 43 "the new text has a line feed, and must be one line",
     BEYOND_32_BITS 50 "the result is beyond 32 bits",
     ZERO_DIVISOR 51 "the divisor is 0",
+    NUMBER_TOO_WIDE 60 "a number is above 255 in `db`, or above 65,535 in `dw`",
 }
 
 /// Why a call did not do its work. Nothing that was lent to it has changed.

@@ -4,9 +4,9 @@ use std::collections::BTreeSet;
 
 const HEADER: &str = include_str!("../../../include/laqhoncu.h");
 
-/// Document 01, "Refusals and what they leave".
-const NUMBERS: [u8; 32] =
-    [1, 2, 3, 4, 5, 6, 10, 11, 12, 13, 14, 15, 16, 17, 20, 21, 22, 23, 24, 25, 26, 30, 31, 32, 33, 34, 40, 41, 42, 43, 50, 51];
+/// Document 01, "Refusals and what they leave"; 60 is document 02's.
+const NUMBERS: [u8; 33] =
+    [1, 2, 3, 4, 5, 6, 10, 11, 12, 13, 14, 15, 16, 17, 20, 21, 22, 23, 24, 25, 26, 30, 31, 32, 33, 34, 40, 41, 42, 43, 50, 51, 60];
 
 /// The value that the header gives a macro.
 fn defined(name: &str) -> &'static str {

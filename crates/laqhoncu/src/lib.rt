@@ -22,6 +22,7 @@ ghost use Rattle.lexer.specs.Tokens.{tokenAt, faultNumber};
 ghost use Rattle.lexer.specs.Scanned.{nextOf, character};
 ghost use Rattle.names.specs.Table.{operations};
 ghost use Rattle.names.specs.Names.{operationNamed, foundOf, nameOf, directiveOf};
+ghost use Rattle.rules.specs.Statements.{present};
 ghost use Rattle.rules.specs.Calls as rules;
 ghost use Rattle.rules.specs.Evaluate.{evaluate};
 ghost use Rattle.rules.specs.Patch.{patch as patchCall, patchSource, patchListing};
@@ -286,8 +287,8 @@ fn full_reading(a: FullAnswer) -> FullReading
 // The listing of a source, written into `out` if there is room for all of it.
 #[no_mangle]
 pub extern "C" fn laqhoncu_full_read(source: &[u8], out: &mut [u8]) -> FullReading
-    ensures answer { λ r. ⌜ r ≡ fullReading (fullAnswer (rules.fullRead operations (now (source .entry)) (length (now (out .entry))))) ⌝ }
-    ensures buffer { λ _. ⌜ now (out .exit) ≡ rules.fullBuffer operations (now (source .entry)) (now (out .entry)) ⌝ }
+    ensures answer { λ r. ⌜ r ≡ fullReading (fullAnswer (rules.fullRead present (now (source .entry)) (length (now (out .entry))))) ⌝ }
+    ensures buffer { λ _. ⌜ now (out .exit) ≡ rules.fullBuffer present (now (source .entry)) (now (out .entry)) ⌝ }
     ensures written { λ r. ⌜ Written (now (source .entry)) (now (out .exit)) r ⌝ }
 {
     let a = reader::full_read(source, out);
@@ -326,8 +327,8 @@ pub extern "C" fn laqhoncu_statement_read(
     place: usize,
     out: &mut [u8],
 ) -> StatementReading
-    ensures answer { λ r. ⌜ r ≡ statementReading (statementAnswer (rules.statementCall operations (now (source .entry)) place (length (now (out .entry))))) ⌝ }
-    ensures buffer { λ _. ⌜ now (out .exit) ≡ rules.statementBuffer operations (now (source .entry)) place (now (out .entry)) ⌝ }
+    ensures answer { λ r. ⌜ r ≡ statementReading (statementAnswer (rules.statementCall present (now (source .entry)) place (length (now (out .entry))))) ⌝ }
+    ensures buffer { λ _. ⌜ now (out .exit) ≡ rules.statementBuffer present (now (source .entry)) place (now (out .entry)) ⌝ }
 {
     let a = reader::statement_read(source, place, out);
     statement_reading(a)
@@ -384,9 +385,9 @@ pub extern "C" fn laqhoncu_patch(
     source: &mut [u8],
     out: &mut [u8],
 ) -> Patching
-    ensures answer { λ r. ⌜ r ≡ patching (patchAnswer (patchCall operations (now (old .entry)) (now (listing .entry)) place (now (text .entry)) (length (now (source .entry))) (length (now (out .entry))))) ⌝ }
-    ensures source { λ _. ⌜ now (source .exit) ≡ patchSource (patchCall operations (now (old .entry)) (now (listing .entry)) place (now (text .entry)) (length (now (source .entry))) (length (now (out .entry)))) (now (source .entry)) ⌝ }
-    ensures listing { λ _. ⌜ now (out .exit) ≡ patchListing (patchCall operations (now (old .entry)) (now (listing .entry)) place (now (text .entry)) (length (now (source .entry))) (length (now (out .entry)))) (now (out .entry)) ⌝ }
+    ensures answer { λ r. ⌜ r ≡ patching (patchAnswer (patchCall present (now (old .entry)) (now (listing .entry)) place (now (text .entry)) (length (now (source .entry))) (length (now (out .entry))))) ⌝ }
+    ensures source { λ _. ⌜ now (source .exit) ≡ patchSource (patchCall present (now (old .entry)) (now (listing .entry)) place (now (text .entry)) (length (now (source .entry))) (length (now (out .entry)))) (now (source .entry)) ⌝ }
+    ensures listing { λ _. ⌜ now (out .exit) ≡ patchListing (patchCall present (now (old .entry)) (now (listing .entry)) place (now (text .entry)) (length (now (source .entry))) (length (now (out .entry)))) (now (out .entry)) ⌝ }
     ensures demand_3 { λ r. ⌜ AsFullRead patching (now (old .entry)) (now (listing .entry)) place (now (text .entry))
         (now (source .entry)) (now (source .exit)) (now (out .entry)) (now (out .exit)) r ⌝ }
 {

@@ -22,7 +22,7 @@ use Rattle.rules.specs.Records.{LL, LI, LT, encode}
 use Rattle.rules.specs.Reader.{at as at-span, Reader, thence, _>>=_, _>>_, return, write, refuse, ahead, kind, passed, next, refuseHere}
 use Rattle.rules.specs.Expressions.{expression}
 use Rattle.rules.specs.Operands.{operands, isWord}
-use Rattle.rules.specs.Statements.{State, over, inLine, lineEnd, skipLines, passing, label, rep, repne, instruction, constant, dataOf, line, content, times}
+use Rattle.rules.specs.Statements.{fitting, fits, State, over, inLine, lineEnd, skipLines, passing, label, rep, repne, instruction, constant, dataOf, line, content, times}
 use Rattle.records.specs.Writes.{Wrote}
 use Rattle.parser.specs.declared.state.Parser.{Parser}
 use Rattle.parser.specs.declared.state.Refusal.{Refusal}
@@ -119,14 +119,14 @@ abbrev choice : Reader State (Unit {0}) → Lexeme → Option ℕ → Option ℕ
 choice t x o d w =
     maybe o
     (maybe d (if w then (passing (inLine (label x))) else (inLine (refuseHere 20)))
-    λ n. if eqb n 0 then (passing (constant x)) else if ltb n 3 then (passing (dataOf x n)) else t)
+    λ n. if eqb n 0 then (passing (constant x)) else if ltb n 3 then (passing (dataOf fits x n)) else t)
     λ op. passing (instruction x op)
 
 module _ (table s : List ℕ) (p : Parser) (t : Reader State (Unit {0})) where
   abbrev text : List ℕ
   text = textOf s (p .«token_start») (p .pos)
 
-  line-is : line table t (stateOf s p) ≡ choice t (hereOf s p) (operationIn table (hereOf s p .kind)) (nameIn directives (hereOf s p .kind)) (isWord (hereOf s p .kind)) (stateOf s p)
+  line-is : line (fitting table) t (stateOf s p) ≡ choice t (hereOf s p) (operationIn table (hereOf s p .kind)) (nameIn directives (hereOf s p .kind)) (isWord (hereOf s p .kind)) (stateOf s p)
   unfolding line _>>=_ inLine over ahead thence
   line-is = after-nil _
 
@@ -135,16 +135,16 @@ module _ (table s : List ℕ) (p : Parser) (t : Reader State (Unit {0})) where
     unfolding kindBy
     word-kind = rw e
 
-    pub line-word : line table t (stateOf s p) ≡ choice t (hereOf s p) (operationNamed table text) (named directives text) true (stateOf s p)
+    pub line-word : line (fitting table) t (stateOf s p) ≡ choice t (hereOf s p) (operationNamed table text) (named directives text) true (stateOf s p)
     unfolding operationIn nameIn isWord wordOf
     line-word = line-is ∙ ap (λ (k : Kind). choice t (hereOf s p) (operationIn table k) (nameIn directives k) (isWord k) (stateOf s p)) word-kind
 
     -- by the code's answers to the word's text w
     module _ {w : List ℕ} (h : w ≡ text) {o : Found} (i : o ≡ foundOf (operationNamed table w)) where
-      line-operation : {op : ℕ} → o ≡ found.Operation op → line table t (stateOf s p) ≡ passing (instruction (hereOf s p) op) (stateOf s p)
+      line-operation : {op : ℕ} → o ≡ found.Operation op → line (fitting table) t (stateOf s p) ≡ passing (instruction (hereOf s p) op) (stateOf s p)
       line-operation {op} j = line-word ∙ ap (λ (f : Option ℕ). choice t (hereOf s p) f (named directives text) true (stateOf s p)) (found-some (operationNamed table text) op (ap (λ (v : List ℕ). foundOf (operationNamed table v)) (sym h) ∙ sym i ∙ j))
 
-      line-directive : o ≡ found.Nothing → {d e : Directive} → d ≡ directiveOf w → d ≡ e → line table t (stateOf s p) ≡ choice t (hereOf s p) none (directiveNumber e) true (stateOf s p)
+      line-directive : o ≡ found.Nothing → {d e : Directive} → d ≡ directiveOf w → d ≡ e → line (fitting table) t (stateOf s p) ≡ choice t (hereOf s p) none (directiveNumber e) true (stateOf s p)
       line-directive j k q = line-word ∙ ap (λ (f : Option ℕ). choice t (hereOf s p) f (named directives text) true (stateOf s p)) (found-none (operationNamed table text) (ap (λ (v : List ℕ). foundOf (operationNamed table v)) (sym h) ∙ sym i ∙ j))
           ∙ ap (λ (f : Option ℕ). choice t (hereOf s p) none f true (stateOf s p)) (directive-is text ∙ ap directiveNumber (ap directiveOf (sym h) ∙ sym k ∙ q))
 
@@ -156,13 +156,13 @@ module _ (table s : List ℕ) (p : Parser) (t : Reader State (Unit {0})) where
       directive-by : directiveBy x ≡ directiveOf w
       directive-by = directs-by w (text-bytes s small (p .«token_start») (p .pos) h) i
 
-      pub key-operation : {o : Found} → o ≡ foundOf (operationBy table x) → {op : ℕ} → o ≡ found.Operation op → line table t (stateOf s p) ≡ passing (instruction (hereOf s p) op) (stateOf s p)
+      pub key-operation : {o : Found} → o ≡ foundOf (operationBy table x) → {op : ℕ} → o ≡ found.Operation op → line (fitting table) t (stateOf s p) ≡ passing (instruction (hereOf s p) op) (stateOf s p)
       key-operation k j = line-operation h (k ∙ ap foundOf found-by) j
 
-      pub key-directive : {d e : Directive} → d ≡ directiveBy x → d ≡ e → Directs e → line table t (stateOf s p) ≡ choice t (hereOf s p) none (directiveNumber e) true (stateOf s p)
+      pub key-directive : {d e : Directive} → d ≡ directiveBy x → d ≡ e → Directs e → line (fitting table) t (stateOf s p) ≡ choice t (hereOf s p) none (directiveNumber e) true (stateOf s p)
       key-directive k q n = line-directive h (ap foundOf (directive-apart table good x (subst Directs (sym q ∙ k) n) ∙ found-by)) refl (k ∙ directive-by) q
 
-      pub key-label : {o : Found} → o ≡ foundOf (operationBy table x) → o ≡ found.Nothing → {d e : Directive} → d ≡ directiveBy x → d ≡ e → line table t (stateOf s p) ≡ choice t (hereOf s p) none (directiveNumber e) true (stateOf s p)
+      pub key-label : {o : Found} → o ≡ foundOf (operationBy table x) → o ≡ found.Nothing → {d e : Directive} → d ≡ directiveBy x → d ≡ e → line (fitting table) t (stateOf s p) ≡ choice t (hereOf s p) none (directiveNumber e) true (stateOf s p)
       key-label j n k q = line-directive h (j ∙ ap foundOf found-by) n (k ∙ directive-by) q
 
   -- a token that is no word is 20
@@ -170,44 +170,44 @@ module _ (table s : List ℕ) (p : Parser) (t : Reader State (Unit {0})) where
   unfolding wordOf
   no-word k v w = by-kind (λ n x. eqb n 97 ≡ false → wordOf x ≡ none) k v w (λ e. cc) (λ _. refl) (λ _. refl) (λ _. refl) (λ _. refl) (λ _. refl) (λ _. refl) (λ _. refl) (λ _. refl) (λ _ _ _ _ _. refl)
 
-  pub line-else : eqb (p .kind) 97 ≡ false → line table t (stateOf s p) ≡ inLine (refuseHere 20) (stateOf s p)
+  pub line-else : eqb (p .kind) 97 ≡ false → line (fitting table) t (stateOf s p) ≡ inLine (refuseHere 20) (stateOf s p)
   unfolding operationIn nameIn isWord
   line-else e = line-is ∙ rw (no-word (p .kind) (p .value) text e)
 
 -- `times`, where n more may stand within one another
 module _ (table s : List ℕ) (p : Parser) where
-  pub times-none : {n : ℕ} → n ≡ 0 → {r : Refusal} → r ≡ numbersOf (at-span 5 (p .«token_start») (p .pos)) → Denies whole s p (times table n) r
+  pub times-none : {n : ℕ} → n ≡ 0 → {r : Refusal} → r ≡ numbersOf (at-span 5 (p .«token_start») (p .pos)) → Denies whole s p (times (fitting table) n) r
   unfolding times
   times-none {n} e h = rw e (lifts-denied (refuses-here 5 h))
 
   module _ {n k : ℕ} (e : n ≡ suc k) where
-    times-is : times table n (stateOf s p) ≡ passing (inLine expression >> (skipLines >> content table (times table k) (hereOf s p))) (stateOf s p)
+    times-is : times (fitting table) n (stateOf s p) ≡ passing (inLine expression >> (skipLines >> content (fitting table) (times (fitting table) k) (hereOf s p))) (stateOf s p)
     unfolding times _>>=_ inLine over ahead thence
     times-is = rw e (after-nil _)
 
-    pub times-past : (i : ℕ) (l : List ℕ) {q : Parser} → Comes inside s p next q tt → Sofar whole s p (times table n) i l q (inLine expression >> (skipLines >> content table (times table k) (hereOf s p))) i l
+    pub times-past : (i : ℕ) (l : List ℕ) {q : Parser} → Comes inside s p next q tt → Sofar whole s p (times (fitting table) n) i l q (inLine expression >> (skipLines >> content (fitting table) (times (fitting table) k) (hereOf s p))) i l
     unfolding passing _>>_
-    times-past i l h = comes (inLine next) (λ _. inLine expression >> (skipLines >> content table (times table k) (hereOf s p))) (becomes (starts whole s p (times table n) i l) times-is) (lifts-comes h)
+    times-past i l h = comes (inLine next) (λ _. inLine expression >> (skipLines >> content (fitting table) (times (fitting table) k) (hereOf s p))) (becomes (starts whole s p (times (fitting table) n) i l) times-is) (lifts-comes h)
 
-    pub times-denied : {r : Refusal} → Denies inside s p next r → Denies whole s p (times table n) r
-    times-denied h = denied (becomes (starts whole s p (times table n) 0 []) times-is) (word-denied _ h)
+    pub times-denied : {r : Refusal} → Denies inside s p next r → Denies whole s p (times (fitting table) n) r
+    times-denied h = denied (becomes (starts whole s p (times (fitting table) n) 0 []) times-is) (word-denied _ h)
 
 -- the content of the `times` that was x
 module _ (table : List ℕ) (t : Reader State (Unit {0})) (x : Lexeme) {s : List ℕ} {p : Parser} where
   content-by : {b : Bool} → (eqb (p .kind) 10 || eqb (p .kind) 0) ≡ b → (i : ℕ) (l : List ℕ)
-      → Sofar whole s p (content table t x) i l p ((if b then (refuse (at-span 34 (x .from) (x .to))) else (line table t)) >> write LT) i l
+      → Sofar whole s p (content (fitting table) t x) i l p ((if b then (refuse (at-span 34 (x .from) (x .to))) else (line (fitting table) t)) >> write LT) i l
   unfolding content
-  content-by e i l = becomes (comes (inLine kind) _ (starts whole s p (content table t x) i l) (lifts-comes is-kind)) (rw (end-is s p ∙ e))
+  content-by e i l = becomes (comes (inLine kind) _ (starts whole s p (content (fitting table) t x) i l) (lifts-comes is-kind)) (rw (end-is s p ∙ e))
 
-  pub content-none : (eqb (p .kind) 10 || eqb (p .kind) 0) ≡ true → {r : Refusal} → r ≡ numbersOf (at-span 34 (x .from) (x .to)) → Denies whole s p (content table t x) r
+  pub content-none : (eqb (p .kind) 10 || eqb (p .kind) 0) ≡ true → {r : Refusal} → r ≡ numbersOf (at-span 34 (x .from) (x .to)) → Denies whole s p (content (fitting table) t x) r
   unfolding _>>_
   content-none e h = called-denied _ _ (content-by e 0 []) (refuses (at-span 34 (x .from) (x .to)) h)
 
   module _ (e : (eqb (p .kind) 10 || eqb (p .kind) 0) ≡ false) where
-    pub content-denied : {r : Refusal} → Denies whole s p (line table t) r → Denies whole s p (content table t x) r
+    pub content-denied : {r : Refusal} → Denies whole s p (line (fitting table) t) r → Denies whole s p (content (fitting table) t x) r
     unfolding _>>_
     content-denied h = called-denied _ _ (content-by e 0 []) h
 
-    pub content-reads : {i w n : ℕ} {l l₁ l₂ : List ℕ} {q : Parser} → Gives whole s p (line table t) i l l₁ q w tt → Wrote w (encode LT) l₁ l₂ n → Gives whole s p (content table t x) i l l₂ q n tt
+    pub content-reads : {i w n : ℕ} {l l₁ l₂ : List ℕ} {q : Parser} → Gives whole s p (line (fitting table) t) i l l₁ q w tt → Wrote w (encode LT) l₁ l₂ n → Gives whole s p (content (fitting table) t x) i l l₂ q n tt
     unfolding _>>_
     content-reads h k = ends (called _ _ (content-by e _ _) h) (writes LT k)

@@ -6,7 +6,7 @@ use mathlib.Core.List.{List, [], _∷_, _++_}
 use lib.ListN.{length, take, drop}
 use Rattle.rules.specs.Lexemes.{tokensFrom}
 use Rattle.rules.specs.Reader.{Refusal as Cause, nowhere, Answer, done, refused, Reader, Line, thence, _>>_, return, arrive, next}
-use Rattle.rules.specs.Statements.{Row, State, rows, enter, literalOf, literals, statement, statements}
+use Rattle.rules.specs.Statements.{fitting, fits, Row, State, rows, enter, literalOf, literals, statement, statements}
 use Rattle.records.specs.Writes.{Wrote}
 use Rattle.parser.specs.declared.state.Parser.{Parser}
 use Rattle.parser.specs.declared.state.Refusal.{Refusal}
@@ -58,14 +58,14 @@ front a o = thence o (λ b. return (a ++ b))
 -- The literal ahead has the bytes ds, which are written, and `others` follow behind the next token.
 pub record Literal (s : List ℕ) (p : Parser) (width at : ℕ) (l l′ : List ℕ) (w : ℕ) (some : Bool) : Type 0 where
   pub ds : List ℕ
-  pub reads : (others : Reader Line (List ℕ)) → literalOf (hereOf s p .kind) width others (lineOf s p) ≡ front ds ((next >> others) (lineOf s p))
+  pub reads : (others : Reader Line (List ℕ)) → literalOf fits (hereOf s p .kind) width others (lineOf s p) ≡ front ds ((next >> others) (lineOf s p))
   pub wrote : Wrote at ds l l′ w
   pub is-some : some ≡ isSome ds
 
 -- It is refused.
 pub record NoLiteral (s : List ℕ) (p : Parser) (width : ℕ) (r : Refusal) : Type 0 where
   pub cause : Cause
-  pub reads : (others : Reader Line (List ℕ)) → literalOf (hereOf s p .kind) width others (lineOf s p) ≡ refused cause
+  pub reads : (others : Reader Line (List ℕ)) → literalOf fits (hereOf s p .kind) width others (lineOf s p) ≡ refused cause
   pub numbers : r ≡ numbersOf cause
 
 abbrev pub ReadsLiteralAs : List ℕ → Parser → ℕ → ℕ → List ℕ → List ℕ → LiteralRead → Type 0
@@ -77,7 +77,7 @@ pub record ReadsLiteral (s : List ℕ) (p : Parser) (width i : ℕ) (l l′ : Li
 
 -- The literals of the line: at most one for each token that is left.
 abbrev pub literalsFrom : List ℕ → Parser → ℕ → Reader Line (List ℕ)
-literalsFrom s p width = literals (suc (length (lineOf s p .more))) width
+literalsFrom s p width = literals fits (suc (length (lineOf s p .more))) width
 
 pub record Literals (s : List ℕ) (p : Parser) (width at : ℕ) (l l′ : List ℕ) (q : Parser) (w : ℕ) (some : Bool) : Type 0 where
   pub ds : List ℕ
@@ -95,17 +95,17 @@ pub record ReadsLiterals (s : List ℕ) (p : Parser) (width i : ℕ) (l l′ : L
 module _ (table s : List ℕ) where
   -- None is left: nothing is written.
   pub record NoneThere (p : Parser) (l l′ : List ℕ) (q : Parser) : Type 0 where
-    pub comes : Comes whole s p (statement table) q false
+    pub comes : Comes whole s p (statement (fitting table)) q false
     pub same : l′ ≡ l
 
   abbrev pub ReadsStatementAs : Parser → ℕ → List ℕ → List ℕ → StatementRead → Type 0
-  ReadsStatementAs p i l l′ (Read q w) = Gives whole s p (statement table) i l l′ q w true
+  ReadsStatementAs p i l l′ (Read q w) = Gives whole s p (statement (fitting table)) i l l′ q w true
   ReadsStatementAs p i l l′ (NoneLeft q) = NoneThere p l l′ q
-  ReadsStatementAs p i l l′ (Refused r) = Denies whole s p (statement table) r
+  ReadsStatementAs p i l l′ (Refused r) = Denies whole s p (statement (fitting table)) r
 
   pub record ReadsStatement (p : Parser) (i : ℕ) (l l′ : List ℕ) (r : StatementRead) : Type 0 where
     pub so : ReadsStatementAs p i l l′ r
 
   -- All statements, of which there are at most as many as tokens.
   pub record ReadsStatements (p : Parser) (i : ℕ) (l l′ : List ℕ) (r : Parsed) : Type 0 where
-    pub so : (n : ℕ) → length (behind s (p .kind) (p .pos)) ≤ n → Reads whole s p (statements table (suc n)) i l l′ r
+    pub so : (n : ℕ) → length (behind s (p .kind) (p .pos)) ≤ n → Reads whole s p (statements (fitting table) (suc n)) i l l′ r

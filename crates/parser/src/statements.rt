@@ -212,16 +212,25 @@ fn put_characters(out: &mut [u8], at: u32, word: &[u8]) -> u32
     put_bytes(out, at, &word[1..n - 1])
 }
 
-// The low bytes of a number, one or two of them.
-fn put_number(out: &mut [u8], at: u32, v: u32, width: u8) -> u32
-    requires { ⌜ (1 ≤ width) × (width ≤ 2) ⌝ }
-    ensures { λ r. ⌜ Wrote at (take width (field v)) (now (out .entry)) (now (out .exit)) r ⌝ }
+// The number ahead, in one byte or two, low first; 60 where it has more.
+fn number(src: &[u8], out: &mut [u8], at: u32, p: Parser, width: u8) -> LiteralRead
+    requires { ⌜ (p .kind ≡ 48) × (1 ≤ width) × (width ≤ 2) ⌝ }
+    ensures { λ r. ⌜ answers.ReadsLiteral (now (src .entry)) p width at (now (out .entry)) (now (out .exit)) r ⌝ }
 {
-    let w = records::put(out, at, (v % 256) as u8);
+    let v = p.value;
     if width == 1 {
-        return w;
+        if 255 < v {
+            return LiteralRead::Refused(refuse_here(p, 60));
+        }
+        return LiteralRead::Bytes(records::put(out, at, (v % 256) as u8), true);
     }
-    records::put(out, w, (v / 256 % 256) as u8)
+    if 65535 < v {
+        return LiteralRead::Refused(refuse_here(p, 60));
+    }
+    LiteralRead::Bytes(
+        records::put_two(out, at, (v % 256) as u8, (v / 256 % 256) as u8),
+        true,
+    )
 }
 
 // The bytes of the literal ahead; a comma has none.
@@ -234,8 +243,7 @@ fn literal(src: &[u8], out: &mut [u8], at: u32, p: Parser, width: u8) -> Literal
         return LiteralRead::Bytes(at, false);
     }
     if kind == NUMBER {
-        let w = put_number(out, at, p.value, width);
-        return LiteralRead::Bytes(w, true);
+        return number(src, out, at, p, width);
     }
     if kind == CLOSED {
         let word = text(src, p);
@@ -270,9 +278,21 @@ fn literals(src: &[u8], out: &mut [u8], at: u32, p: Parser, width: u8) -> Litera
                     return LiteralsRead::Refused(r);
                 }
                 Step::Ahead(after) => {
-                    q = after;
                     w = n;
                     some = some | more;
+                    // A comma mostly follows.
+                    if after.kind == COMMA {
+                        match next(src, after) {
+                            Step::Stopped(r) => {
+                                return LiteralsRead::Refused(r);
+                            }
+                            Step::Ahead(behind) => {
+                                q = behind;
+                            }
+                        }
+                    } else {
+                        q = after;
+                    }
                 }
             },
         }
@@ -282,7 +302,7 @@ fn literals(src: &[u8], out: &mut [u8], at: u32, p: Parser, width: u8) -> Litera
 // `db` or `dw` and its literals: their bytes stand behind the record's 14, which are written when their count is known.
 fn data_of(src: &[u8], out: &mut [u8], at: u32, p: Parser, width: u8) -> Parsed
     requires { ⌜ (length (now src) ≤ 65536) × (p .kind ≡ 97) × (1 ≤ width) × (width ≤ 2) ⌝ }
-    ensures { λ r. ⌜ Reads whole (now (src .entry)) p (rules.passing (rules.dataOf (hereOf (now (src .entry)) p) width)) at (now (out .entry)) (now (out .exit)) r ⌝ }
+    ensures { λ r. ⌜ Reads whole (now (src .entry)) p (rules.passing (rules.dataOf rules.fits (hereOf (now (src .entry)) p) width)) at (now (out .entry)) (now (out .exit)) r ⌝ }
 {
     let from = p.token_start;
     let first = records::data_place(at);
@@ -323,7 +343,7 @@ fn line(
     left: u32,
 ) -> Parsed
     requires { ⌜ (length (now src) ≤ 65536) × (keys.goodTable (now table) ≡ true) ⌝ }
-    ensures { λ r. ⌜ Reads whole (now (src .entry)) (parserOf pos «token_start» «last_token_end» kind value) (rules.line (now (table .entry)) (rules.times (now (table .entry)) left)) at (now (out .entry)) (now (out .exit)) r ⌝ }
+    ensures { λ r. ⌜ Reads whole (now (src .entry)) (parserOf pos «token_start» «last_token_end» kind value) (rules.line (rules.fitting (now (table .entry))) (rules.times (rules.fitting (now (table .entry))) left)) at (now (out .entry)) (now (out .exit)) r ⌝ }
 {
     let p = Parser {
         pos: pos,
@@ -352,7 +372,7 @@ fn line(
 // `times`, its expression and its content, which may stand on a later line.
 fn times(src: &[u8], table: &[u8; 936], out: &mut [u8], at: u32, p: Parser, left: u32) -> Parsed
     requires { ⌜ (length (now src) ≤ 65536) × (keys.goodTable (now table) ≡ true) × (p .kind ≡ 97) ⌝ }
-    ensures { λ r. ⌜ Reads whole (now (src .entry)) p (rules.times (now (table .entry)) left) at (now (out .entry)) (now (out .exit)) r ⌝ }
+    ensures { λ r. ⌜ Reads whole (now (src .entry)) p (rules.times (rules.fitting (now (table .entry))) left) at (now (out .entry)) (now (out .exit)) r ⌝ }
 {
     if left == 0 {
         return Parsed::Refused(refuse_here(p, 5));
@@ -380,7 +400,7 @@ fn content(
     left: u32,
 ) -> Parsed
     requires { ⌜ (length (now src) ≤ 65536) × (keys.goodTable (now table) ≡ true) ⌝ }
-    ensures { λ r. ⌜ Reads whole (now (src .entry)) p (rules.content (now (table .entry)) (rules.times (now (table .entry)) left) (hereOf (now (src .entry)) word)) at (now (out .entry)) (now (out .exit)) r ⌝ }
+    ensures { λ r. ⌜ Reads whole (now (src .entry)) p (rules.content (rules.fitting (now (table .entry))) (rules.times (rules.fitting (now (table .entry))) left) (hereOf (now (src .entry)) word)) at (now (out .entry)) (now (out .exit)) r ⌝ }
 {
     let kind = p.kind;
     if is_line_end(kind) {

@@ -5,7 +5,7 @@ use mathlib.Core.Path.{_≡_, refl, _∙_}
 use mathlib.Core.Bool.{Bool, false}
 use mathlib.Core.List.{List}
 use lib.Dec.{eqb}
-use Rattle.names.specs.Table.{operations}
+use Rattle.rules.specs.Statements.{present}
 use Rattle.rules.specs.Records.{Record}
 use Rattle.rules.specs.Calls.{Result, gives, refuses, fullRead}
 use Rattle.rules.specs.Patch.{isOpen, leavesOpen}
@@ -25,8 +25,8 @@ answer-tells (gives w) = refl
 answer-tells (refuses c) = refl
 
 module _ (l : List ℕ) (room : ℕ) where
-  pub open-denied : {r : Refusal} → Refused r ≡ fullAnswer (fullRead operations l room) → eqb (r .number) 34 ≡ leavesOpen operations l
-  open-denied e = (λ i. answersOpen (e i)) ∙ answer-tells (fullRead operations l room) ∙ open-any-room operations l room
+  pub open-denied : {r : Refusal} → Refused r ≡ fullAnswer (fullRead present l room) → eqb (r .number) 34 ≡ leavesOpen present l
+  open-denied e = (λ i. answersOpen (e i)) ∙ answer-tells (fullRead present l room) ∙ open-any-room present l room
 
-  pub open-accepted : {n : ℕ} → Written n ≡ fullAnswer (fullRead operations l room) → false ≡ leavesOpen operations l
-  open-accepted e = (λ i. answersOpen (e i)) ∙ answer-tells (fullRead operations l room) ∙ open-any-room operations l room
+  pub open-accepted : {n : ℕ} → Written n ≡ fullAnswer (fullRead present l room) → false ≡ leavesOpen present l
+  open-accepted e = (λ i. answersOpen (e i)) ∙ answer-tells (fullRead present l room) ∙ open-any-room present l room

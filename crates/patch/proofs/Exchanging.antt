@@ -14,10 +14,9 @@ use lib.Seq.{take-at}
 use Rattle.lexer.specs.Text.{maybe, among, run}
 use Rattle.lexer.specs.Tokens.{inComment}
 use Rattle.lexer.proofs.Runs.{one-of}
-use Rattle.names.specs.Table.{operations}
 use Rattle.rules.specs.Records.{Record, listing}
 use Rattle.rules.specs.Reader.{nowhere}
-use Rattle.rules.specs.Statements.{readFrom}
+use Rattle.rules.specs.Statements.{present, readFrom}
 use Rattle.rules.specs.Calls.{Result, gives, refuses, unless, mostBytes, tooLong, ascii, lent, overwrite, leaves, fullRead, fullBuffer}
 use Rattle.rules.specs.Decode.{decode}
 use Rattle.rules.specs.WellFormed.{wellFormed}
@@ -55,21 +54,21 @@ module _ (ed : List ℕ) where
   listings (gives w) l = refl
   listings (refuses c) l = refl
 
-pub as-full-read : {old bytes : List ℕ} {a : ℕ} {new s s′ l l′ : List ℕ} {r : PatchAnswer} → Patches (patch operations old bytes a new (length s) (length l)) s s′ l l′ r
+pub as-full-read : {old bytes : List ℕ} {a : ℕ} {new s s′ l l′ : List ℕ} {r : PatchAnswer} → Patches (patch present old bytes a new (length s) (length l)) s s′ l l′ r
     → AsFullRead (λ x. x) old bytes a new s s′ l l′ r
 unfolding fullBuffer
 as-full-read {old} {bytes} {a} {new} {s} {l = l} p = record {
   so = λ d.
       let ed : List ℕ = edited old a new in
-      let x : Result (List Record) = fullRead operations ed (length l) in
-      let k : patch operations old bytes a new (length s) (length l) ≡ edits ed x = ap (λ (b : List ℕ). patch operations old b a new (length s) (length l)) (d .its-listing)
-      ∙ demand-3 operations proper old (d .records) a new (d .room) (length s) (length l) (d .accepted) (d .a-line) (d .one-line) (d .none-open) (d .long-enough) in
+      let x : Result (List Record) = fullRead present ed (length l) in
+      let k : patch present old bytes a new (length s) (length l) ≡ edits ed x = ap (λ (b : List ℕ). patch present old b a new (length s) (length l)) (d .its-listing)
+      ∙ demand-3 present proper old (d .records) a new (d .room) (length s) (length l) (d .accepted) (d .a-line) (d .one-line) (d .none-open) (d .long-enough) in
       (p .answer ∙ ap patchAnswer k ∙ answers ed x, p .source ∙ ap (λ (y : Result Edit). patchSource y s) k ∙ sources ed x s, p .listing ∙ ap (λ (y : Result Edit). patchListing y l) k ∙ listings ed x l);
 }
 
 -- The clauses of the contract.
-pub clauses : {old bytes : List ℕ} {a : ℕ} {new s s′ l l′ : List ℕ} {r : PatchAnswer} → Patches (patch operations old bytes a new (length s) (length l)) s s′ l l′ r
-    → (r ≡ patchAnswer (patch operations old bytes a new (length s) (length l))) × ((s′ ≡ patchSource (patch operations old bytes a new (length s) (length l)) s) × ((l′ ≡ patchListing (patch operations old bytes a new (length s) (length l)) l)
+pub clauses : {old bytes : List ℕ} {a : ℕ} {new s s′ l l′ : List ℕ} {r : PatchAnswer} → Patches (patch present old bytes a new (length s) (length l)) s s′ l l′ r
+    → (r ≡ patchAnswer (patch present old bytes a new (length s) (length l))) × ((s′ ≡ patchSource (patch present old bytes a new (length s) (length l)) s) × ((l′ ≡ patchListing (patch present old bytes a new (length s) (length l)) l)
     × AsFullRead (λ x. x) old bytes a new s s′ l l′ r))
 clauses p = (p .answer, (p .source, (p .listing, as-full-read p)))
 
@@ -83,7 +82,7 @@ both-short n m e = go (ltb 65536 n) refl e
 -- 42, 43 and 1, and none of them.
 module _ (old bytes : List ℕ) (a : ℕ) (new s l : List ℕ) where
   abbrev whole : Result Edit
-  whole = patch operations old bytes a new (length s) (length l)
+  whole = patch present old bytes a new (length s) (length l)
 
   pub no-line : beginsLine old a ≡ false → whole ≡ refuses (nowhere 42)
   unfolding patch unless
@@ -106,7 +105,7 @@ module _ (old bytes : List ℕ) (a : ℕ) (new s l : List ℕ) where
       unfolding patch unless tooLong mostBytes
       edited-long i = rw (h, feedless, lt-ltb 65536 (length (edited old a new)) i) (either (ltb 65536 (length old)))
         where
-          either : (b : Bool) → unless (b || true) (nowhere 1) (ascii (edited old a new) (patched operations old (decode bytes) a new (length s) (length l))) ≡ refuses (nowhere 1)
+          either : (b : Bool) → unless (b || true) (nowhere 1) (ascii (edited old a new) (patched present old (decode bytes) a new (length s) (length l))) ≡ refuses (nowhere 1)
           either true = refl
           either false = refl
 
@@ -116,7 +115,7 @@ module _ (old bytes : List ℕ) (a : ℕ) (new s l : List ℕ) where
           (λ j. edited-long (omega (arith, ltb-true 65536 (length new) j, new-within old a new (begins-within old a h) {ed = edited old a new} refl)))
           (one-of (ltb 65536 (length old)) (ltb 65536 (length new)) i)
 
-      pub all-lent : length old ≤ 65536 → length (edited old a new) ≤ 65536 → whole ≡ ascii (edited old a new) (patched operations old (decode bytes) a new (length s) (length l))
+      pub all-lent : length old ≤ 65536 → length (edited old a new) ≤ 65536 → whole ≡ ascii (edited old a new) (patched present old (decode bytes) a new (length s) (length l))
       unfolding patch unless tooLong mostBytes
       all-lent i j = rw (h, feedless, le-ltb 65536 (length old) i, le-ltb 65536 (length (edited old a new)) j)
 
@@ -160,7 +159,7 @@ module _ (old : List ℕ) (a : ℕ) (new : List ℕ) (h : a ≤ length old) (roo
 -- 41 and 40, and neither.
 module _ (old bytes : List ℕ) (a : ℕ) (new s l : List ℕ) where
   abbrev inner : Option (List Record) → Result Edit
-  inner o = patched operations old o a new (length s) (length l)
+  inner o = patched present old o a new (length s) (length l)
 
   pub ill-formed : wellFormedBytes bytes (length old) ≡ false → inner (decode bytes) ≡ refuses (nowhere 41)
   unfolding wellFormedBytes patched unless
@@ -173,7 +172,7 @@ module _ (old bytes : List ℕ) (a : ℕ) (new s l : List ℕ) where
   -- what well-formed bytes say
   pub record Formed : Type 0 where
     pub decodes : Decodes bytes 0
-    pub so : inner (decode bytes) ≡ unless (openLine operations old a new) (nowhere 40) (reread old (recordsAt bytes 0) a new (length s) (length l) (readFrom operations a (new ++ take 1 (behind old a))))
+    pub so : inner (decode bytes) ≡ unless (openLine present old a new) (nowhere 40) (reread old (recordsAt bytes 0) a new (length s) (length l) (readFrom present a (new ++ take 1 (behind old a))))
 
   pub well-formed : wellFormedBytes bytes (length old) ≡ true → Formed
   unfolding wellFormedBytes patched unless recordsAt
@@ -184,28 +183,28 @@ module _ (old bytes : List ℕ) (a : ℕ) (new s l : List ℕ) where
       go (some rs) e k = record { decodes = record { so = rw e }; so = rw (e, k) }
 
   module _ (F : Formed) where
-    pub is-open : openLine operations old a new ≡ true → inner (decode bytes) ≡ refuses (nowhere 40)
+    pub is-open : openLine present old a new ≡ true → inner (decode bytes) ≡ refuses (nowhere 40)
     unfolding unless
     is-open h = F .so ∙ rw h
 
-    pub is-closed : openLine operations old a new ≡ false → inner (decode bytes) ≡ reread old (recordsAt bytes 0) a new (length s) (length l) (readFrom operations a (new ++ take 1 (behind old a)))
+    pub is-closed : openLine present old a new ≡ false → inner (decode bytes) ≡ reread old (recordsAt bytes 0) a new (length s) (length l) (readFrom present a (new ++ take 1 (behind old a)))
     unfolding unless
     is-closed h = F .so ∙ rw h
 
 -- 40 by its three lines.
-module _ (old : List ℕ) (a : ℕ) (new : List ℕ) (h : a ≤ length old) {end : ℕ} (e : end ≡ a + length (lineAt old a)) {b : Bool} (i : b ≡ leavesOpen operations (take (end - a) (drop a old))) where
-  old-is : leavesOpen operations (lineAt old a) ≡ b
-  old-is = ap (leavesOpen operations) (sym (line-slice old a h e)) ∙ sym i
+module _ (old : List ℕ) (a : ℕ) (new : List ℕ) (h : a ≤ length old) {end : ℕ} (e : end ≡ a + length (lineAt old a)) {b : Bool} (i : b ≡ leavesOpen present (take (end - a) (drop a old))) where
+  old-is : leavesOpen present (lineAt old a) ≡ b
+  old-is = ap (leavesOpen present) (sym (line-slice old a h e)) ∙ sym i
 
-  pub old-open : b ≡ true → true ≡ openLine operations old a new
+  pub old-open : b ≡ true → true ≡ openLine present old a new
   unfolding openLine
   old-open k = rw (old-is ∙ k)
 
-  module _ (k : b ≡ false) {c : Bool} (m : c ≡ leavesOpen operations new) where
-    pub new-open : c ≡ true → true ≡ openLine operations old a new
+  module _ (k : b ≡ false) {c : Bool} (m : c ≡ leavesOpen present new) where
+    pub new-open : c ≡ true → true ≡ openLine present old a new
     unfolding openLine
     new-open n = rw (old-is ∙ k, sym m ∙ n)
 
-    pub near-open : c ≡ false → {d : Bool} → d ≡ maybe (nearest (linesFrom [] (above old a))) false (leavesOpen operations) → d ≡ openLine operations old a new
+    pub near-open : c ≡ false → {d : Bool} → d ≡ maybe (nearest (linesFrom [] (above old a))) false (leavesOpen present) → d ≡ openLine present old a new
     unfolding openLine
     near-open n d = rw (old-is ∙ k, sym m ∙ n) d

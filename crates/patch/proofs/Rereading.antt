@@ -16,7 +16,7 @@ use Rattle.lexer.proofs.Runs.{run-le}
 use Rattle.names.specs.Table.{operations}
 use Rattle.rules.specs.Records.{Record, listing}
 use Rattle.rules.specs.Reader.{Refusal as Cause}
-use Rattle.rules.specs.Statements.{Outcome, accepted, refusal, readFrom}
+use Rattle.rules.specs.Statements.{present, Outcome, accepted, refusal, readFrom}
 use Rattle.rules.specs.Calls.{foreign}
 use Rattle.rules.specs.Patch.{above, lineAt, behind, edited, exchanged, placedIn, reread}
 use Rattle.rules.proofs.Shape.{small-parts}
@@ -136,7 +136,7 @@ never-both e = let z : _≡_ {A = ℕ} 0 1 = cc in omega arith
 -- The reading of the bytes from a place on.
 module _ (s : List ℕ) (place : ℕ) where
   abbrev reading : Outcome
-  reading = readFrom operations place (drop place s)
+  reading = readFrom present place (drop place s)
 
   pub not-begun : {r : Refusal} → NotStarted s place r → (c : Cause) × (reading ≡ refusal c) × (r ≡ numbersOf c)
   not-begun b = let f = all-not-started operations s place b in (f .cause, f .reads, f .numbers)
@@ -150,7 +150,7 @@ module _ (s : List ℕ) (place : ℕ) where
 
   module _ (short : length s ≤ 65536) (plain : foreignPlace s ≡ length s) (within : place ≤ length s) where
     little : (v : List Record) → reading ≡ accepted v → length (listing v) ≤ limit
-    little v e = omega (arith, bounded-from operations proper place (drop place s) (small-parts place s (small s plain) .1) v e, length-drop place s)
+    little v e = omega (arith, bounded-from present proper place (drop place s) (small-parts place s (small s plain) .1) v e, length-drop place s)
 
     -- of few bytes
     pub measure-small : {p : Parser} {m : ℕ} → Measured s place p m → m ≤ limit
@@ -181,16 +181,16 @@ module _ (old : List ℕ) (rs : List Record) (a : ℕ) (new s l : List ℕ) wher
   newLine = new ++ take 1 (behind old a)
 
   module _ (line : List ℕ) (e : drop a line ≡ newLine) where
-    pub line-denied : {r : Refusal} → (c : Cause) × (readFrom operations a (drop a line) ≡ refusal c) × (r ≡ numbersOf c) → Patches (reread old rs a new (length s) (length l) (readFrom operations a newLine)) s s l l (Refused r)
+    pub line-denied : {r : Refusal} → (c : Cause) × (readFrom present a (drop a line) ≡ refusal c) × (r ≡ numbersOf c) → Patches (reread old rs a new (length s) (length l) (readFrom present a newLine)) s s l l (Refused r)
     unfolding reread
-    line-denied (c, f, k) = refused c (rw (ap (readFrom operations a) (sym e) ∙ f)) k
+    line-denied (c, f, k) = refused c (rw (ap (readFrom present a) (sym e) ∙ f)) k
 
     pub line-accepted : {p : Parser} {n end : ℕ} {s′ l′ ed : List ℕ} {r : PatchAnswer} → Measured line a p n → end ≡ a + length (lineAt old a) → ed ≡ edited old a new
-        → Patches (placedIn (length s) (length l) ed (exchanged a (end - a) (length new) rs (acceptedOf (readFrom operations a (drop a line))))) s s′ l l′ r
-        → Patches (reread old rs a new (length s) (length l) (readFrom operations a newLine)) s s′ l l′ r
+        → Patches (placedIn (length s) (length l) ed (exchanged a (end - a) (length new) rs (acceptedOf (readFrom present a (drop a line))))) s s′ l l′ r
+        → Patches (reread old rs a new (length s) (length l) (readFrom present a newLine)) s s′ l l′ r
     unfolding reread
     line-accepted {end = end} {ed = ed} m k h p =
-        let w : List Record = acceptedOf (readFrom operations a (drop a line)) in
-        let f : readFrom operations a newLine ≡ accepted w = ap (readFrom operations a) (sym e) ∙ m .reads in
+        let w : List Record = acceptedOf (readFrom present a (drop a line)) in
+        let f : readFrom present a newLine ≡ accepted w = ap (readFrom present a) (sym e) ∙ m .reads in
         let d : end - a ≡ length (lineAt old a) = omega arith in
         same-edit (rw f (rw (← d, ← h))) p

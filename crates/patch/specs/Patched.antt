@@ -5,9 +5,8 @@ use mathlib.Core.Bool.{true, false}
 use mathlib.Core.List.{List, []}
 use lib.ListN.{length, drop}
 use Rattle.lexer.specs.Text.{among}
-use Rattle.names.specs.Table.{operations}
 use Rattle.rules.specs.Records.{Record, listing}
-use Rattle.rules.specs.Statements.{Outcome, accepted, refusal, readFrom}
+use Rattle.rules.specs.Statements.{present, Outcome, accepted, refusal, readFrom}
 use Rattle.rules.specs.Calls.{Result, gives, refuses, fullRead, fullBuffer, leaves}
 use Rattle.rules.specs.Patch.{beginsLine, edited, openLine, Edit, patchSource, patchListing}
 use Rattle.parser.specs.declared.state.Parser.{Parser}
@@ -38,8 +37,8 @@ acceptedOf (refusal c) = []
 -- The bytes of s from a place on were read from the state p, and their records measured.
 pub record Measured (s : List ℕ) (place : ℕ) (p : Parser) (n : ℕ) : Type 0 where
   pub started : Started s place p
-  pub reads : readFrom operations place (drop place s) ≡ accepted (acceptedOf (readFrom operations place (drop place s)))
-  pub size : n ≡ length (listing (acceptedOf (readFrom operations place (drop place s))))
+  pub reads : readFrom present place (drop place s) ≡ accepted (acceptedOf (readFrom present place (drop place s)))
+  pub size : n ≡ length (listing (acceptedOf (readFrom present place (drop place s))))
 
 -- The full read's answer for a source of n bytes, as the patch gives it.
 abbrev pub asPatch : ℕ → FullAnswer → PatchAnswer
@@ -51,11 +50,11 @@ asPatch n (full.Refused r) = Refused r
 pub record Supposed (old bytes : List ℕ) (a : ℕ) (new s : List ℕ) : Type 0 where
   pub room : ℕ
   pub records : List Record
-  pub accepted : fullRead operations old room ≡ gives records
+  pub accepted : fullRead present old room ≡ gives records
   pub its-listing : bytes ≡ listing records
   pub a-line : beginsLine old a ≡ true
   pub one-line : among 10 new ≡ false
-  pub none-open : openLine operations old a new ≡ false
+  pub none-open : openLine present old a new ≡ false
   pub long-enough : length (edited old a new) ≤ length s
 
 -- DEMAND 3. The patch answers as the full read of the edited source does, lent as many bytes for the listing: the same length, or the same
@@ -63,6 +62,6 @@ pub record Supposed (old bytes : List ℕ) (a : ℕ) (new s : List ℕ) : Type 0
 -- `given` says in which form the answer r is given.
 pub record AsFullRead {R : Type 0} (given : PatchAnswer → R) (old bytes : List ℕ) (a : ℕ) (new s s′ l l′ : List ℕ) (r : R) : Type 0 where
   pub so : Supposed old bytes a new s
-      → (r ≡ given (asPatch (length (edited old a new)) (fullAnswer (fullRead operations (edited old a new) (length l)))))
-      × (s′ ≡ leaves (λ (v : List Record). edited old a new) (fullRead operations (edited old a new) (length l)) s)
-      × (l′ ≡ fullBuffer operations (edited old a new) l)
+      → (r ≡ given (asPatch (length (edited old a new)) (fullAnswer (fullRead present (edited old a new) (length l)))))
+      × (s′ ≡ leaves (λ (v : List Record). edited old a new) (fullRead present (edited old a new) (length l)) s)
+      × (l′ ≡ fullBuffer present (edited old a new) l)

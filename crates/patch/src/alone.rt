@@ -10,12 +10,12 @@ ghost use mathlib.Core.List.{[]};
 ghost use Prim.Native.Nat.{ℕ, _-_, _≤_};
 ghost use lib.ListN.{length, take, drop};
 ghost use Rattle.lexer.specs.Text.{maybe, among};
-ghost use Rattle.names.specs.Table.{operations};
+ghost use Rattle.rules.specs.Statements.{present};
 ghost use Rattle.rules.specs.Patch.{beginsLine, above, linesFrom, bareLine, nearest, leavesOpen};
 
 // Whether a line leaves a `times` without its content: the full read of it alone is refused with 34. No room is lent, since 4 is not 34.
 pub fn leaves_open(line: &[u8]) -> bool
-    ensures { λ r. ⌜ r ≡ leavesOpen operations (now (line .entry)) ⌝ }
+    ensures { λ r. ⌜ r ≡ leavesOpen present (now (line .entry)) ⌝ }
 {
     let mut nothing = [0u8; 0];
     match full_read(line, &mut nothing) {
@@ -56,7 +56,7 @@ fn line_start(source: &[u8], end: usize) -> usize
 // Whether the nearest line above a place that has more leaves a `times` open.
 pub fn nearest_open(source: &[u8], place: usize) -> bool
     requires { ⌜ (length (now source) ≤ 65536) × (beginsLine (now source) place ≡ true) ⌝ }
-    ensures { λ r. ⌜ r ≡ maybe (nearest (linesFrom [] (above (now (source .entry)) place))) false (leavesOpen operations) ⌝ }
+    ensures { λ r. ⌜ r ≡ maybe (nearest (linesFrom [] (above (now (source .entry)) place))) false (leavesOpen present) ⌝ }
 {
     let mut below = place;
     while 0 < below {

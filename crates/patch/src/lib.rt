@@ -26,7 +26,7 @@ ghost use Rattle.names.specs.Table.{operations};
 ghost use Rattle.reader.specs.Lent.{foreignPlace};
 ghost use Rattle.rules.specs.Calls.{ascii};
 ghost use Rattle.rules.specs.Decode.{decode};
-ghost use Rattle.rules.specs.Statements.{readFrom};
+ghost use Rattle.rules.specs.Statements.{present, readFrom};
 ghost use Rattle.rules.specs.Patch as rules;
 ghost use Rattle.patch.specs.Moves.{Decodes, First, recordsAt};
 ghost use Rattle.patch.specs.Patched.{patchAnswer, Patches, acceptedOf, Measured, AsFullRead};
@@ -66,7 +66,7 @@ fn place_in(
     requires { ⌜ (length (now edited) ≤ 65536) × (length (now line) ≤ 65536) × (foreignPlace (now line) ≡ length (now line)) × (now table ≡ operations) × (x .place ≤ length (now line)) × (x .new ≤ 65536)
         × Measured (now line) (x .place) p (x .size) × Decodes (now listing) 0 × First (now listing) 0 (x .place) (x .below) × First (now listing) (x .below) (x .place + x .old) (x .on) ⌝ }
     ensures { λ r. ⌜ Patches (rules.placedIn (length (now (source .entry))) (length (now (out .entry))) (now (edited .entry))
-        (rules.exchanged (x .place) (x .old) (x .new) (recordsAt (now (listing .entry)) 0) (acceptedOf (readFrom operations (x .place) (drop (x .place) (now (line .entry)))))))
+        (rules.exchanged (x .place) (x .old) (x .new) (recordsAt (now (listing .entry)) 0) (acceptedOf (readFrom present (x .place) (drop (x .place) (now (line .entry)))))))
         (now (source .entry)) (now (source .exit)) (now (out .entry)) (now (out .exit)) r ⌝ }
 {
     let below = x.below;
@@ -105,7 +105,7 @@ fn reread(
     requires { ⌜ (length (now old) ≤ 65536) × (length (now edited) ≤ 65536) × (foreignPlace (now edited) ≡ length (now edited)) × (now table ≡ operations) × (place ≤ length (now old))
         × (end ≡ place + length (rules.lineAt (now old) place)) × (now edited ≡ rules.edited (now old) place (now text)) × Decodes (now listing) 0 ⌝ }
     ensures { λ r. ⌜ Patches (rules.reread (now (old .entry)) (recordsAt (now (listing .entry)) 0) place (now (text .entry)) (length (now (source .entry))) (length (now (out .entry)))
-        (readFrom operations place (now (text .entry) ++ take 1 (rules.behind (now (old .entry)) place))))
+        (readFrom present place (now (text .entry) ++ take 1 (rules.behind (now (old .entry)) place))))
         (now (source .entry)) (now (source .exit)) (now (out .entry)) (now (out .exit)) r ⌝ }
 {
     let mut cut = place + text.len();
@@ -139,7 +139,7 @@ fn reread(
 // 40: whether the replaced line, the new one, or the nearest above that has more leaves a `times` open.
 fn open_line(old: &[u8], place: usize, end: usize, text: &[u8]) -> bool
     requires { ⌜ (length (now old) ≤ 65536) × (rules.beginsLine (now old) place ≡ true) × (end ≡ place + length (rules.lineAt (now old) place)) ⌝ }
-    ensures { λ r. ⌜ r ≡ rules.openLine operations (now (old .entry)) place (now (text .entry)) ⌝ }
+    ensures { λ r. ⌜ r ≡ rules.openLine present (now (old .entry)) place (now (text .entry)) ⌝ }
 {
     if leaves_open(&old[place..end]) {
         return true;
@@ -163,7 +163,7 @@ fn check_and_reread(
 ) -> PatchAnswer
     requires { ⌜ (length (now old) ≤ 65536) × (length (now text) ≤ 65536) × (length (now edited) ≤ 65536) × (foreignPlace (now edited) ≡ length (now edited)) × (rules.beginsLine (now old) place ≡ true)
         × (end ≡ place + length (rules.lineAt (now old) place)) × (now edited ≡ rules.edited (now old) place (now text)) ⌝ }
-    ensures { λ r. ⌜ Patches (rules.patched operations (now (old .entry)) (decode (now (listing .entry))) place (now (text .entry)) (length (now (source .entry))) (length (now (out .entry))))
+    ensures { λ r. ⌜ Patches (rules.patched present (now (old .entry)) (decode (now (listing .entry))) place (now (text .entry)) (length (now (source .entry))) (length (now (out .entry))))
         (now (source .entry)) (now (source .exit)) (now (out .entry)) (now (out .exit)) r ⌝ }
 {
     if !checker::well_formed(listing, old.len()) {
@@ -190,7 +190,7 @@ fn exchange_line(
     requires { ⌜ (length (now old) ≤ 65536) × (length (now text) ≤ 65536) × (rules.beginsLine (now old) place ≡ true) × (end ≡ place + length (rules.lineAt (now old) place))
         × (n ≡ length (rules.edited (now old) place (now text))) × (n ≤ 65536) ⌝ }
     ensures { λ r. ⌜ Patches (ascii (rules.edited (now (old .entry)) place (now (text .entry)))
-        (rules.patched operations (now (old .entry)) (decode (now (listing .entry))) place (now (text .entry)) (length (now (source .entry))) (length (now (out .entry)))))
+        (rules.patched present (now (old .entry)) (decode (now (listing .entry))) place (now (text .entry)) (length (now (source .entry))) (length (now (out .entry)))))
         (now (source .entry)) (now (source .exit)) (now (out .entry)) (now (out .exit)) r ⌝ }
 {
     let mut room = [0u8; 65536];
@@ -211,9 +211,9 @@ pub fn patch(
     source: &mut [u8],
     out: &mut [u8],
 ) -> PatchAnswer
-    ensures answer { λ r. ⌜ r ≡ patchAnswer (rules.patch operations (now (old .entry)) (now (listing .entry)) place (now (text .entry)) (length (now (source .entry))) (length (now (out .entry)))) ⌝ }
-    ensures source { λ _. ⌜ now (source .exit) ≡ rules.patchSource (rules.patch operations (now (old .entry)) (now (listing .entry)) place (now (text .entry)) (length (now (source .entry))) (length (now (out .entry)))) (now (source .entry)) ⌝ }
-    ensures listing { λ _. ⌜ now (out .exit) ≡ rules.patchListing (rules.patch operations (now (old .entry)) (now (listing .entry)) place (now (text .entry)) (length (now (source .entry))) (length (now (out .entry)))) (now (out .entry)) ⌝ }
+    ensures answer { λ r. ⌜ r ≡ patchAnswer (rules.patch present (now (old .entry)) (now (listing .entry)) place (now (text .entry)) (length (now (source .entry))) (length (now (out .entry)))) ⌝ }
+    ensures source { λ _. ⌜ now (source .exit) ≡ rules.patchSource (rules.patch present (now (old .entry)) (now (listing .entry)) place (now (text .entry)) (length (now (source .entry))) (length (now (out .entry)))) (now (source .entry)) ⌝ }
+    ensures listing { λ _. ⌜ now (out .exit) ≡ rules.patchListing (rules.patch present (now (old .entry)) (now (listing .entry)) place (now (text .entry)) (length (now (source .entry))) (length (now (out .entry)))) (now (out .entry)) ⌝ }
     ensures demand_3 { λ r. ⌜ AsFullRead (λ x. x) (now (old .entry)) (now (listing .entry)) place (now (text .entry))
         (now (source .entry)) (now (source .exit)) (now (out .entry)) (now (out .exit)) r ⌝ }
 {

@@ -7,7 +7,7 @@ use native.Mathlib.Omega.{arith}
 use lib.ListN.{length, length-append, length-take, length-drop, take, drop}
 use lib.Seq.{take-all, take-append-seam}
 use Rattle.io.specs.Counts.{Counts}
-use Rattle.names.specs.Table.{operations}
+use Rattle.rules.specs.Statements.{present}
 use Rattle.rules.specs.Records.{Record, listing}
 use Rattle.rules.specs.Calls.{Result, gives, refuses, overwrite, leaves, fullRead, fullBuffer}
 use Rattle.rules.proofs.Calls.{Accepted, accepted-call}
@@ -33,21 +33,21 @@ said {bs} {l} {l′} {r} most h k =
     ((λ room. omega arith), (omega arith, omega (arith, length-take r l′)))
 
 module _ (s l l′ : List ℕ) where
-  pub written : {n : ℕ} → Written n ≡ fullAnswer (fullRead operations s (length l)) → l′ ≡ fullBuffer operations s l → textOf (recordsIn 0 (take n l′)) ≡ answerText (fullRead operations s (length l))
+  pub written : {n : ℕ} → Written n ≡ fullAnswer (fullRead present s (length l)) → l′ ≡ fullBuffer present s l → textOf (recordsIn 0 (take n l′)) ≡ answerText (fullRead present s (length l))
   unfolding fullBuffer answerText leaves overwrite
-  written {n} e f = go (fullRead operations s (length l)) refl e f
+  written {n} e f = go (fullRead present s (length l)) refl e f
     where
-      go : (x : Result (List Record)) → fullRead operations s (length l) ≡ x → Written n ≡ fullAnswer x → l′ ≡ leaves listing x l → textOf (recordsIn 0 (take n l′)) ≡ answerText x
+      go : (x : Result (List Record)) → fullRead present s (length l) ≡ x → Written n ≡ fullAnswer x → l′ ≡ leaves listing x l → textOf (recordsIn 0 (take n l′)) ≡ answerText x
       go (gives w) h e f =
           let k : n ≡ length (listing w) = cc in
           let b : take n l′ ≡ listing w = rw (k, f) (take-append-seam (listing w) (drop (length (listing w)) l)) in
-          let a : Accepted operations s w = accepted-call operations s (length l) w h in
-          rw b (ap textOf (text-of-listing (listing w) w (listing-decodes operations proper s w (a .small) (a .short) (a .reads))))
+          let a : Accepted present s w = accepted-call present s (length l) w h in
+          rw b (ap textOf (text-of-listing (listing w) w (listing-decodes present proper s w (a .small) (a .short) (a .reads))))
       go (refuses c) h e f = absurd (true≢false cc)
 
-  pub denied : {r : Refusal} → Refused r ≡ fullAnswer (fullRead operations s (length l)) → refusalText (r .number) (r .from) (r .to) (r .first) (r .second) ≡ answerText (fullRead operations s (length l))
+  pub denied : {r : Refusal} → Refused r ≡ fullAnswer (fullRead present s (length l)) → refusalText (r .number) (r .from) (r .to) (r .first) (r .second) ≡ answerText (fullRead present s (length l))
   unfolding answerText
-  denied {r} e = go (fullRead operations s (length l)) e
+  denied {r} e = go (fullRead present s (length l)) e
     where
       go : (x : Result (List Record)) → Refused r ≡ fullAnswer x → refusalText (r .number) (r .from) (r .to) (r .first) (r .second) ≡ answerText x
       go (gives w) e = absurd (true≢false cc)
@@ -67,5 +67,5 @@ all-said source l {t} {t′} {r} e f h k =
     let size : r ≡ length (answered source l) = k (omega arith) in
     let fits : take (length t) (answered source l) ≡ answered source l =
     take-all (length t) (answered source l) (omega (arith, h .size, length-take (length t) (answered source l))) in
-    let same : answered source l ≡ printed source = ap (λ (n : ℕ). answerText (fullRead operations source n)) e in
+    let same : answered source l ≡ printed source = ap (λ (n : ℕ). answerText (fullRead present source n)) e in
     record { text = h .text ∙ ap (λ (b : List ℕ). overwrite b t) (fits ∙ same); size = size ∙ ap length same }

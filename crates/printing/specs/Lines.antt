@@ -7,6 +7,7 @@ use Prim.Native.String.{String}
 use lib.ListN.{length, take, drop}
 use Rattle.lexer.specs.Text.{maybe, bytes}
 use Rattle.names.specs.Table.{operations, spellings, row, rowsOf}
+use Rattle.rules.specs.Statements.{present}
 use Rattle.rules.specs.Records.{Record, ST, VC, VL, VI, VS, PF, IN, OR, OS, OI, OF, OD, OX, LL, LI, LD, LC, LT}
 use Rattle.rules.specs.Calls.{Result, gives, refuses, fullRead, openCalls}
 use Rattle.rules.specs.Decode.{recordOf}
@@ -55,11 +56,11 @@ answerText (refuses c) = let r : Refusal = numbersOf c in refusalText (r .number
 
 -- With as many bytes lent for the listing as the buffer l has.
 abbrev pub answered : List ℕ → List ℕ → List ℕ
-answered s l = answerText (fullRead operations s (length l))
+answered s l = answerText (fullRead present s (length l))
 
 -- `listing` lends 65,536 bytes for the listing.
 abbrev pub printed : List ℕ → List ℕ
-printed input = answerText (fullRead operations input 65536)
+printed input = answerText (fullRead present input 65536)
 
 -- The records that bytes begin with, of which the first k belong to one that is already read. A listing has nothing else.
 unfoldable pub recordsIn : ℕ → List ℕ → List Record

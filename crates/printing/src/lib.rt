@@ -13,7 +13,7 @@ ghost use mathlib.Core.List.{[], _∷_};
 ghost use Prim.Native.Nat.{_+_, _*_, _≤_, _<_};
 ghost use lib.ListN.{length, take};
 ghost use Rattle.io.specs.Counts.{Counts};
-ghost use Rattle.names.specs.Table.{operations};
+ghost use Rattle.rules.specs.Statements.{present};
 ghost use Rattle.rules.specs.Calls.{fullBuffer};
 ghost use Rattle.rules.specs.Decode.{nth};
 ghost use Rattle.printing.specs.Text.{numbers, Wrote, Holds, Whole};
@@ -248,7 +248,7 @@ pub fn answer_text(source: &[u8], listing: &mut [u8], text: &mut [u8]) -> usize
     ensures text { λ r. ⌜ Holds (answered (now (source .entry)) (now (listing .entry))) (now (text .entry)) (now (text .exit)) r ⌝ }
     ensures whole { λ r. ⌜ (6 * length (now (listing .entry)) + 109 ≤ length (now (text .entry))
         → r ≡ length (answered (now (source .entry)) (now (listing .entry)))) ⌝ }
-    ensures listing { λ _. ⌜ now (listing .exit) ≡ fullBuffer operations (now (source .entry)) (now (listing .entry)) ⌝ }
+    ensures listing { λ _. ⌜ now (listing .exit) ≡ fullBuffer present (now (source .entry)) (now (listing .entry)) ⌝ }
 {
     match full_read(source, listing) {
         FullAnswer::Written(n) => {
@@ -269,7 +269,7 @@ pub fn input_text(
 ) -> usize
     ensures within { λ r. ⌜ Counts r (now (text .exit)) ⌝ }
     ensures text { λ r. ⌜ Whole (printed (take n (now (input .entry)))) (now (text .entry)) (now (text .exit)) r ⌝ }
-    ensures listing { λ _. ⌜ now (listing .exit) ≡ fullBuffer operations (take n (now (input .entry))) (now (listing .entry)) ⌝ }
+    ensures listing { λ _. ⌜ now (listing .exit) ≡ fullBuffer present (take n (now (input .entry))) (now (listing .entry)) ⌝ }
 {
     let mut end = n;
     if 65537 < n {

@@ -17,7 +17,7 @@ use Rattle.names.specs.Table.{operations}
 use Rattle.rules.specs.Lexemes.{Lexeme, tokensFrom}
 use Rattle.rules.specs.Records.{Record, listing}
 use Rattle.rules.specs.Reader.{Refusal as Cause, at, nowhere, Answer, done, refused, after, thence, arrive, refusedAs}
-use Rattle.rules.specs.Statements.{Row, State, rows, enter, statements, Outcome, accepted, refusal, outcome, readRows, readFrom, reading}
+use Rattle.rules.specs.Statements.{fitting, present, Row, State, rows, enter, statements, Outcome, accepted, refusal, outcome, readRows, readFrom, reading}
 use Rattle.rules.specs.Calls.{Result, gives, refuses, unless, lent, inRoom, overwrite, leaves, listed, foreign, fullRead, fullBuffer}
 use Rattle.rules.proofs.Calls.{none-foreign, ascii-small}
 use Rattle.rules.proofs.Shape.{Small}
@@ -59,7 +59,7 @@ all-copied kept out n h = let e : length (take n kept) ≡ n = length-take n kep
 module _ (table s : List ℕ) (p : Parser) (b : Started s 0 p) where
   pub record Accepts (l l′ : List ℕ) (w : ℕ) : Type 0 where
     pub v : List Record
-    pub reads : reading table s ≡ accepted v
+    pub reads : reading (fitting table) s ≡ accepted v
     pub wrote : Wrote 0 (listing v) l l′ w
 
   module _ {l l′ : List ℕ} where
@@ -67,25 +67,25 @@ module _ (table s : List ℕ) (p : Parser) (b : Started s 0 p) where
     unfolding reading
     accepts h = let f = all-read table s 0 b h in record { v = f .v; reads = f .reads; wrote = f .wrote }
 
-    pub denies : {r : Refusal} → ReadsStatements table s p 0 l l′ (parsed.Refused r) → (c : Cause) × (reading table s ≡ refusal c) × (r ≡ numbersOf c)
+    pub denies : {r : Refusal} → ReadsStatements table s p 0 l l′ (parsed.Refused r) → (c : Cause) × (reading (fitting table) s ≡ refusal c) × (r ≡ numbersOf c)
     unfolding reading
     denies h = let f = all-refused table s 0 b h in (f .cause, f .reads, f .numbers)
 
 -- the first token is refused already
-pub not-begun : (table s : List ℕ) {r : Refusal} → NotStarted s 0 r → (c : Cause) × (reading table s ≡ refusal c) × (r ≡ numbersOf c)
+pub not-begun : (table s : List ℕ) {r : Refusal} → NotStarted s 0 r → (c : Cause) × (reading (fitting table) s ≡ refusal c) × (r ≡ numbersOf c)
 unfolding reading
 not-begun table s b = let f = all-not-started table s 0 b in (f .cause, f .reads, f .numbers)
 
 -- What it makes of the answer and of the buffer.
 module _ (s l : List ℕ) where
-  pub is-denied : {r : Refusal} → (c : Cause) × (reading operations s ≡ refusal c) × (r ≡ numbersOf c) → ReadsAll s l l (Refused r)
+  pub is-denied : {r : Refusal} → (c : Cause) × (reading present s ≡ refusal c) × (r ≡ numbersOf c) → ReadsAll s l l (Refused r)
   unfolding listed leaves
   is-denied (c, e, k) = record { answer = rw e (ap Refused k); buffer = rw e }
 
-  module _ (m : Small s) (short : length s ≤ 65536) {v : List Record} (e : reading operations s ≡ accepted v) where
+  module _ (m : Small s) (short : length s ≤ 65536) {v : List Record} (e : reading present s ≡ accepted v) where
     -- within the limit
     pub little : length (listing v) ≤ limit
-    little = omega (arith, bounded operations proper s v m e)
+    little = omega (arith, bounded present proper s v m e)
 
     pub no-room-for : length l < length (listing v) → ReadsAll s l l (Refused (numbersOf (nowhere 4)))
     unfolding listed leaves inRoom unless
@@ -153,26 +153,26 @@ module _ {s : List ℕ} {p : Parser} (short : length s ≤ 65536) (plain : forei
 
 -- The whole call, from the reading of a source that may be read.
 module _ (s l l′ : List ℕ) {r : FullAnswer} where
-  pub call-answer : lent s (listed (length l) (reading operations s)) ≡ listed (length l) (reading operations s) → ReadsAll s l l′ r → r ≡ fullAnswer (fullRead operations s (length l))
+  pub call-answer : lent s (listed (length l) (reading present s)) ≡ listed (length l) (reading present s) → ReadsAll s l l′ r → r ≡ fullAnswer (fullRead present s (length l))
   unfolding fullRead
   call-answer e f = f .answer ∙ ap fullAnswer (sym e)
 
-  pub call-buffer : lent s (listed (length l) (reading operations s)) ≡ listed (length l) (reading operations s) → ReadsAll s l l′ r → l′ ≡ fullBuffer operations s l
+  pub call-buffer : lent s (listed (length l) (reading present s)) ≡ listed (length l) (reading present s) → ReadsAll s l l′ r → l′ ≡ fullBuffer present s l
   unfolding fullBuffer fullRead
   call-buffer e f = f .buffer ∙ ap (λ (x : Result (List Record)). leaves listing x l) (sym e)
 
-module _ (s l : List ℕ) {r : Refusal} (d : (c : Cause) × (lent s (listed (length l) (reading operations s)) ≡ refuses c) × (r ≡ numbersOf c)) where
-  pub call-denied : Refused r ≡ fullAnswer (fullRead operations s (length l))
+module _ (s l : List ℕ) {r : Refusal} (d : (c : Cause) × (lent s (listed (length l) (reading present s)) ≡ refuses c) × (r ≡ numbersOf c)) where
+  pub call-denied : Refused r ≡ fullAnswer (fullRead present s (length l))
   unfolding fullRead
   call-denied = let (c, e, k) = d in rw e (ap Refused k)
 
-  pub buffer-denied : l ≡ fullBuffer operations s l
+  pub buffer-denied : l ≡ fullBuffer present s l
   unfolding fullBuffer fullRead leaves
   buffer-denied = let (c, e, k) = d in rw e
 
 -- What an accepted call has written.
 module _ (s l l′ : List ℕ) (m : Small s) (short : length s ≤ 65536) where
-  written-so : (o : Outcome) → reading operations s ≡ o → {r : FullAnswer} → r ≡ fullAnswer (listed (length l) o) → l′ ≡ leaves listing (listed (length l) o) l → WritesAs s l′ r
+  written-so : (o : Outcome) → reading present s ≡ o → {r : FullAnswer} → r ≡ fullAnswer (listed (length l) o) → l′ ≡ leaves listing (listed (length l) o) l → WritesAs s l′ r
   unfolding listed inRoom unless leaves overwrite
   written-so (refusal c) e k h = rw k tt
   written-so (accepted v) e k h = go (ltb (length l) (length (listing v))) refl k h
@@ -182,7 +182,7 @@ module _ (s l l′ : List ℕ) (m : Small s) (short : length s ≤ 65536) where
       go false i k h =
           let f : take (length (listing v)) l′ ≡ listing v = rw h (take-append-seam (listing v) (drop (length (listing v)) l)) in
           let n : length l′ ≡ length (listing v) + length (drop (length (listing v)) l) = ap length h ∙ length-append (listing v) (drop (length (listing v)) l) in
-          rw k (omega arith, bounded operations proper s v m e, rw (f, listing-decodes operations proper s v m short e) (listing-formed operations proper s v m e))
+          rw k (omega arith, bounded present proper s v m e, rw (f, listing-decodes present proper s v m short e) (listing-formed present proper s v m e))
 
   pub is-well-written : {r : FullAnswer} → ReadsAll s l l′ r → Writes s l′ r
-  is-well-written f = record { so = written-so (reading operations s) refl (f .answer) (f .buffer) }
+  is-well-written f = record { so = written-so (reading present s) refl (f .answer) (f .buffer) }

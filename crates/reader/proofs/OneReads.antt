@@ -12,7 +12,7 @@ use Rattle.names.specs.Table.{operations}
 use Rattle.rules.specs.Lexemes.{tokensFrom}
 use Rattle.rules.specs.Records.{Record, listing}
 use Rattle.rules.specs.Reader.{Refusal as Cause, at, nowhere, Answer, done, refused, after, thence, arrive}
-use Rattle.rules.specs.Statements.{Row, State, rows, enter, statement}
+use Rattle.rules.specs.Statements.{present, Row, State, rows, enter, statement}
 use Rattle.rules.specs.Calls.{Result, gives, refuses, unless, lentAt, inRoom, overwrite, leaves, Found, nothing, found, oneFound, oneRead, statementCall, foundBytes, statementBuffer}
 use Rattle.rules.proofs.Shape.{Small, small-split}
 use Rattle.rules.proofs.Table.{proper}
@@ -49,7 +49,7 @@ written-as e f = rw e f
 
 module _ (s : List ℕ) (place : ℕ) where
   abbrev reading : Answer State Bool
-  reading = oneRead operations (rows (tokensFrom place 0 (drop place s)))
+  reading = oneRead present (rows (tokensFrom place 0 (drop place s)))
 
   module _ (l : List ℕ) where
     pub one-denied : {r : Refusal} (c : Cause) → reading ≡ refused c → r ≡ numbersOf c → OneRead s place l l (Refused r)
@@ -60,7 +60,7 @@ module _ (s : List ℕ) (place : ℕ) where
   not-begun l b = let f = one-not-started operations s place b in one-denied l (f .cause) (f .reads) (f .numbers)
 
   module _ (p : Parser) (b : Started s place p) where
-    read-is : reading ≡ statement operations (stateOf s p)
+    read-is : reading ≡ statement present (stateOf s p)
     read-is = one-at operations s place b
 
     pub denied-there : {l l₁ l₂ : List ℕ} {i : ℕ} {r : Refusal} → ReadsStatement operations s p i l₁ l₂ (read.Refused r) → OneRead s place l l (Refused r)
@@ -71,14 +71,14 @@ module _ (s : List ℕ) (place : ℕ) where
     none-there h = record { answer = rw (read-is ∙ h .so .comes .reads); buffer = rw (read-is ∙ h .so .comes .reads) }
 
     module _ (short : length s ≤ 65536) (plain : foreignPlace s ≡ length s) (within : place ≤ length s) {l₁ l₂ : List ℕ} {q : Parser} {n : ℕ} (h : ReadsStatement operations s p 0 l₁ l₂ (read.Read q n)) where
-      abbrev first : Gives whole s p (statement operations) 0 l₁ l₂ q n true
+      abbrev first : Gives whole s p (statement present) 0 l₁ l₂ q n true
       first = h .so
 
       given : reading ≡ done (first .v) true (stateOf s q)
       given = read-is ∙ first .reads
 
       little : length (listing (first .v)) ≤ limit
-      little = omega (arith, bounded-one operations proper place (drop place s) (small-drop place s (small s plain)) given, length-drop place s)
+      little = omega (arith, bounded-one present proper place (drop place s) (small-drop place s (small s plain)) given, length-drop place s)
 
       size-is : n ≡ length (listing (first .v))
       size-is = first .wrote .place (omega (arith, little)) ∙ zero-add (length (listing (first .v)))
@@ -110,21 +110,21 @@ module _ (s : List ℕ) (place : ℕ) where
 -- The whole call.
 module _ (s : List ℕ) (p : ℕ) (l : List ℕ) where
   abbrev pub inner : Result Found
-  inner = oneFound (length l) (oneRead operations (rows (tokensFrom p 0 (drop p s))))
+  inner = oneFound (length l) (oneRead present (rows (tokensFrom p 0 (drop p s))))
 
-  pub call-answer : {l′ : List ℕ} {r : StatementAnswer} → lentAt s p inner ≡ inner → OneRead s p l l′ r → r ≡ statementAnswer (statementCall operations s p (length l))
+  pub call-answer : {l′ : List ℕ} {r : StatementAnswer} → lentAt s p inner ≡ inner → OneRead s p l l′ r → r ≡ statementAnswer (statementCall present s p (length l))
   unfolding statementCall
   call-answer e f = f .answer ∙ ap statementAnswer (sym e)
 
-  pub call-buffer : {l′ : List ℕ} {r : StatementAnswer} → lentAt s p inner ≡ inner → OneRead s p l l′ r → l′ ≡ statementBuffer operations s p l
+  pub call-buffer : {l′ : List ℕ} {r : StatementAnswer} → lentAt s p inner ≡ inner → OneRead s p l l′ r → l′ ≡ statementBuffer present s p l
   unfolding statementBuffer statementCall
   call-buffer e f = f .buffer ∙ ap (λ (x : Result Found). leaves foundBytes x l) (sym e)
 
   module _ {r : Refusal} (d : (c : Cause) × (lentAt s p inner ≡ refuses c) × (r ≡ numbersOf c)) where
-    pub call-denied : Refused r ≡ statementAnswer (statementCall operations s p (length l))
+    pub call-denied : Refused r ≡ statementAnswer (statementCall present s p (length l))
     unfolding statementCall
     call-denied = let (c, e, k) = d in rw e (ap Refused k)
 
-    pub buffer-denied : l ≡ statementBuffer operations s p l
+    pub buffer-denied : l ≡ statementBuffer present s p l
     unfolding statementBuffer statementCall leaves
     buffer-denied = let (c, e, k) = d in rw e

@@ -10,9 +10,8 @@ use Rattle.rules.specs.Decode.{decode}
 use Rattle.rules.specs.WellFormed.{wellFormed}
 use Rattle.lexer.specs.Tokens.{lengthOf}
 use Rattle.lexer.specs.declared.Token.{Token}
-use Rattle.names.specs.Table.{operations}
 use Rattle.rules.specs.Records.{Record, listing}
-use Rattle.rules.specs.Statements.{rows, reading}
+use Rattle.rules.specs.Statements.{present, rows, reading}
 use Rattle.rules.specs.Calls.{Result, gives, refuses, listed, leaves, Found, nothing, found, oneFound, oneRead, foundBytes}
 use Rattle.reader.specs.declared.TokenAnswer.{TokenAnswer}
 use Rattle.reader.specs.declared.TokenAnswer.the-variants as token
@@ -38,12 +37,12 @@ fullAnswer (refuses c) = full.Refused (numbersOf c)
 
 -- What a source that is one to read gives: the answer, and what the buffer holds afterwards.
 pub record ReadsAll (s l l′ : List ℕ) (r : FullAnswer) : Type 0 where
-  pub answer : r ≡ fullAnswer (listed (length l) (reading operations s))
-  pub buffer : l′ ≡ leaves listing (listed (length l) (reading operations s)) l
+  pub answer : r ≡ fullAnswer (listed (length l) (reading present s))
+  pub buffer : l′ ≡ leaves listing (listed (length l) (reading present s)) l
 
 pub record OneRead (s : List ℕ) (p : ℕ) (l l′ : List ℕ) (r : StatementAnswer) : Type 0 where
-  pub answer : r ≡ statementAnswer (oneFound (length l) (oneRead operations (rows (tokensFrom p 0 (drop p s)))))
-  pub buffer : l′ ≡ leaves foundBytes (oneFound (length l) (oneRead operations (rows (tokensFrom p 0 (drop p s))))) l
+  pub answer : r ≡ statementAnswer (oneFound (length l) (oneRead present (rows (tokensFrom p 0 (drop p s)))))
+  pub buffer : l′ ≡ leaves foundBytes (oneFound (length l) (oneRead present (rows (tokensFrom p 0 (drop p s))))) l
 
 -- What holds of the bytes that an accepted full read has written: a listing is never longer than 18 times its source, and it is well-formed.
 abbrev pub WritesAs : List ℕ → List ℕ → FullAnswer → Type 0

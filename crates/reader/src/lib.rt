@@ -21,7 +21,7 @@ ghost use lib.ListN.{take, drop};
 ghost use Rattle.names.specs.Table.{operations};
 ghost use Rattle.rules.specs.Records.{listing};
 ghost use Rattle.rules.specs.Calls as rules;
-ghost use Rattle.rules.specs.Statements.{reading};
+ghost use Rattle.rules.specs.Statements.{present, reading};
 ghost use Rattle.reader.specs.Lent.{isAscii, foreignPlace, lentOf, lentAtOf};
 ghost use Rattle.parser.specs.Statements.{Started};
 ghost use Rattle.reader.specs.Calls.{ReadsAll, OneRead, Writes, tokenAnswer, fullAnswer, statementAnswer};
@@ -189,8 +189,8 @@ fn read_all(source: &[u8], out: &mut [u8]) -> FullAnswer
 
 // All statements of a source: their records in `out`, if there is room for all of them.
 pub fn full_read(source: &[u8], out: &mut [u8]) -> FullAnswer
-    ensures answer { λ r. ⌜ r ≡ fullAnswer (rules.fullRead operations (now (source .entry)) (length (now (out .entry)))) ⌝ }
-    ensures buffer { λ _. ⌜ now (out .exit) ≡ rules.fullBuffer operations (now (source .entry)) (now (out .entry)) ⌝ }
+    ensures answer { λ r. ⌜ r ≡ fullAnswer (rules.fullRead present (now (source .entry)) (length (now (out .entry)))) ⌝ }
+    ensures buffer { λ _. ⌜ now (out .exit) ≡ rules.fullBuffer present (now (source .entry)) (now (out .entry)) ⌝ }
     ensures written { λ r. ⌜ Writes (now (source .entry)) (now (out .exit)) r ⌝ }
 {
     match readable(source) {
@@ -244,8 +244,8 @@ fn read_one(source: &[u8], place: u32, out: &mut [u8]) -> StatementAnswer
 
 // The statement at a place: its records in `out`, if there is room for all of them.
 pub fn statement_read(source: &[u8], place: usize, out: &mut [u8]) -> StatementAnswer
-    ensures answer { λ r. ⌜ r ≡ statementAnswer (rules.statementCall operations (now (source .entry)) place (length (now (out .entry)))) ⌝ }
-    ensures buffer { λ _. ⌜ now (out .exit) ≡ rules.statementBuffer operations (now (source .entry)) place (now (out .entry)) ⌝ }
+    ensures answer { λ r. ⌜ r ≡ statementAnswer (rules.statementCall present (now (source .entry)) place (length (now (out .entry)))) ⌝ }
+    ensures buffer { λ _. ⌜ now (out .exit) ≡ rules.statementBuffer present (now (source .entry)) place (now (out .entry)) ⌝ }
 {
     match readable_at(source, place) {
         Lent::Refused(r) => StatementAnswer::Refused(r),

@@ -24,8 +24,8 @@ pub fn put(out: &mut [u8], at: u32, b: u8) -> u32
     at + 1
 }
 
-// Two letters.
-fn put_mark(out: &mut [u8], at: u32, m: u8, n: u8) -> u32
+// Two bytes: a record's mark, or a word of data.
+pub fn put_two(out: &mut [u8], at: u32, m: u8, n: u8) -> u32
     ensures { λ r. ⌜ Wrote at (m ∷ n ∷ []) (now (out .entry)) (now (out .exit)) r ⌝ }
 {
     if LIMIT <= at {
@@ -71,7 +71,7 @@ pub fn data_place(at: u32) -> u32
 pub fn put_place(out: &mut [u8], at: u32, m: u8, n: u8, place: u32) -> u32
     ensures { λ r. ⌜ Wrote at (m ∷ n ∷ fields (place ∷ [])) (now (out .entry)) (now (out .exit)) r ⌝ }
 {
-    let w = put_mark(out, at, m, n);
+    let w = put_two(out, at, m, n);
     put_field(out, w, place)
 }
 

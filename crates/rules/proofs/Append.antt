@@ -14,7 +14,7 @@ use Rattle.rules.specs.Reader.{Refusal, at, Answer, done, refused, Reade
 use Rattle.rules.specs.Operands.{isWord}
 use Rattle.rules.proofs.Move.{Mild, Stays, Gentle, bad-mild, next-mild}
 use Rattle.rules.proofs.MoveState.{ahead-mild, passed-mild, left-mild, here-mild, expression-mild, operands-mild, label-mild, literals-mild}
-use Rattle.rules.specs.Statements.{Row, State, over, inLine, firstOf, enter, stepRow, nextRow, lineEnd, skip, skipLines, passing, rep, repne, instruction, constant, someData, dataOf, line, content, times, begun, statement}
+use Rattle.rules.specs.Statements.{Profile, Row, State, over, inLine, firstOf, enter, stepRow, nextRow, lineEnd, skip, skipLines, passing, rep, repne, instruction, constant, someData, dataOf, line, content, times, begun, statement}
 
 pub after-nil : {S A : Type 0} (p : Answer S A) → after [] p ≡ p
 unfolding after
@@ -101,12 +101,12 @@ abbrev pub Late : Bool → Type 0
 Late true = Unit {0}
 Late false = ⊥
 
-module _ (table : List ℕ) where
+module _ (profile : Profile) where
   -- Runs of statements, with what the last one gives.
   pub data Reads : State → Answer State (Unit {0}) → Type 0 where
-    stop : {s t : State} {w : List Record} → statement table s ≡ done w false t → Reads s (done w tt t)
-    fail : {s : State} {r : Refusal} → statement table s ≡ refused r → Reads s (refused r)
-    go : {s t : State} {w : List Record} {p : Answer State (Unit {0})} → statement table s ≡ done w true t → Reads t p → Reads s (after w p)
+    stop : {s t : State} {w : List Record} → statement profile s ≡ done w false t → Reads s (done w tt t)
+    fail : {s : State} {r : Refusal} → statement profile s ≡ refused r → Reads s (refused r)
+    go : {s t : State} {w : List Record} {p : Answer State (Unit {0})} → statement profile s ≡ done w true t → Reads t p → Reads s (after w p)
 
   -- what comes of a statement's answer
   pub data Continues : Answer State Bool → Answer State (Unit {0}) → Type 0 where
@@ -114,12 +114,12 @@ module _ (table : List ℕ) where
     fail : {r : Refusal} → Continues (refused r) (refused r)
     go : {t : State} {w : List Record} {p : Answer State (Unit {0})} → Reads t p → Continues (done w true t) (after w p)
 
-  pub continues : {s : State} {p : Answer State (Unit {0})} → Reads s p → Continues (statement table s) p
+  pub continues : {s : State} {p : Answer State (Unit {0})} → Reads s p → Continues (statement profile s) p
   continues (stop z) = rw z Continues.stop
   continues (fail z) = rw z Continues.fail
   continues (go z r) = rw z (Continues.go r)
 
-  pub reads : {s : State} {a : Answer State Bool} {p : Answer State (Unit {0})} → statement table s ≡ a → Continues a p → Reads s p
+  pub reads : {s : State} {a : Answer State Bool} {p : Answer State (Unit {0})} → statement profile s ≡ a → Continues a p → Reads s p
   reads h Continues.stop = Reads.stop h
   reads h Continues.fail = Reads.fail h
   reads h (Continues.go r) = Reads.go h r
@@ -129,15 +129,15 @@ module _ (table : List ℕ) where
     fine : {r : Row} {rs : List Row} {p : Answer State (Unit {0})} → refusedAs (r .first .kind) ≡ none → Reads (enter r rs) p → Begins (r ∷ rs) p
     broken : {r : Row} {rs : List Row} {n : ℕ} → refusedAs (r .first .kind) ≡ some n → Begins (r ∷ rs) (refused (at n (r .first .from) (r .first .to)))
 
-  pub begun-ends : (u : State) → Ending u → begun table u ≡ done [] false u
+  pub begun-ends : (u : State) → Ending u → begun profile u ≡ done [] false u
   unfolding begun _>>=_ thence after inLine over ahead return
   begun-ends u e = rw (e .over′)
 
-  pub statement-ends : (u : State) → Ending u → statement table u ≡ done [] false u
+  pub statement-ends : (u : State) → Ending u → statement profile u ≡ done [] false u
   unfolding statement _>>_ _>>=_ thence after
   statement-ends u e = rw (skip-ends u e, begun-ends u e)
 
-  content-lacks : (m : Reader State (Unit {0})) (x : Lexeme) (u : State) → Ending u → content table m x u ≡ refused (at 34 (x .from) (x .to))
+  content-lacks : (m : Reader State (Unit {0})) (x : Lexeme) (u : State) → Ending u → content profile m x u ≡ refused (at 34 (x .from) (x .to))
   unfolding content _>>=_ _>>_ thence after inLine over kind refuse
   content-lacks m x u e = rw (e .over′)
 
@@ -150,7 +150,7 @@ module _ (table : List ℕ) where
       pub z : List Record
       pub a : A
       pub few : n ≤ 16
-      pub form : q ≡ closing w z a (thence (coming b bs) (λ _. content table (times table n) x))
+      pub form : q ≡ closing w z a (thence (coming b bs) (λ _. content profile (times profile n) x))
 
     -- Two answers agree: the same records and value, in states that R relates; the same refusal. Late ones may also lack a content, or end before a bad token.
     pub data Agree (c : Bool) (R : State → State → Type 0) {A : Type 0} : Answer State A → Answer State A → Type 0 where
@@ -320,13 +320,13 @@ module _ (table : List ℕ) where
     someData-open x [] = refuses _ refl
     someData-open x (d ∷ ds) = bind (inLines passed-mild) λ t. thenWrites _ lineEnd-open
 
-    dataOf-open : (x : Lexeme) (width : ℕ) → Keeps b bs true (In es b bs) (Open es b bs) (dataOf x width)
+    dataOf-open : (x : Lexeme) (width : ℕ) → Keeps b bs true (In es b bs) (Open es b bs) (dataOf (profile .takes) x width)
     unfolding dataOf
-    dataOf-open x width = bind (inLines left-mild) λ n. bind (inLines (literals-mild (suc n) width)) λ ds. someData-open x ds
+    dataOf-open x width = bind (inLines left-mild) λ n. bind (inLines (literals-mild (profile .takes) (suc n) width)) λ ds. someData-open x ds
 
-    line-open : {m : Reader State (Unit {0})} → Keeps b bs true (In es b bs) (Open es b bs) m → Keeps b bs true (In es b bs) (Open es b bs) (line table m)
+    line-open : {m : Reader State (Unit {0})} → Keeps b bs true (In es b bs) (Open es b bs) m → Keeps b bs true (In es b bs) (Open es b bs) (line profile m)
     unfolding line
-    line-open p = bind (inLines ahead-mild) λ x. perhaps (operationIn table (x .kind)) (perhaps (nameIn directives (x .kind))
+    line-open p = bind (inLines ahead-mild) λ x. perhaps (operationIn (profile .table) (x .kind)) (perhaps (nameIn directives (x .kind))
         (whether (isWord (x .kind)) (passing-open (opened (inLines (label-mild x)))) (opened (inLines (here-mild 20 refl))))
         λ n. whether (eqb n 0) (passing-open (constant-open x)) (whether (ltb n 3) (passing-open (dataOf-open x n)) p)) λ op. passing-open (instruction-open x op)
 
@@ -347,19 +347,19 @@ module _ (table : List ℕ) where
 
     -- the content of a `times`
     content-open : {m : Reader State (Unit {0})} (x : Lexeme) → Keeps b bs true (In es b bs) (Open es b bs) m → {s t : State} → In es b bs s t → isLineEnd (s .line .here .kind) ≡ false
-        → Agree b bs true (Open es b bs) (content table m x s) (content table m x t)
+        → Agree b bs true (Open es b bs) (content profile m x s) (content profile m x t)
     unfolding content _>>=_ thence inLine over kind
     content-open {m} x h (inside l rs) f = after-agree [] (rw f (thenWrites LT (line-open h) .law (inside l rs)))
 
-    then-skipped : (n : ℕ) → n ≤ 16 → (x : Lexeme) → Keeps b bs true (In es b bs) (Open es b bs) (times table n)
-        → {p q : Answer State (Unit {0})} → Skipped es b bs p q → Agree b bs true (Open es b bs) (thence p (λ _. content table (times table n) x)) (thence q (λ _. content table (times table n) x))
+    then-skipped : (n : ℕ) → n ≤ 16 → (x : Lexeme) → Keeps b bs true (In es b bs) (Open es b bs) (times profile n)
+        → {p q : Answer State (Unit {0})} → Skipped es b bs p q → Agree b bs true (Open es b bs) (thence p (λ _. content profile (times profile n) x)) (thence q (λ _. content profile (times profile n) x))
     unfolding thence
     then-skipped n i x h (still j f) = after-agree [] (content-open x h j f)
     then-skipped n i x h (stopped m) = neither m
-    then-skipped n i x h (reached u e) = rw (after-nil (content table (times table n) x u), content-lacks (times table n) x u e)
-        (lacking tt (record { n = n; x = x; w = []; z = []; a = tt; few = i; form = sym (closing-plain (thence (coming b bs) (λ _. content table (times table n) x))) }))
+    then-skipped n i x h (reached u e) = rw (after-nil (content profile (times profile n) x u), content-lacks (times profile n) x u e)
+        (lacking tt (record { n = n; x = x; w = []; z = []; a = tt; few = i; form = sym (closing-plain (thence (coming b bs) (λ _. content profile (times profile n) x))) }))
 
-    times-open : (n : ℕ) → n ≤ 16 → Keeps b bs true (In es b bs) (Open es b bs) (times table n)
+    times-open : (n : ℕ) → n ≤ 16 → Keeps b bs true (In es b bs) (Open es b bs) (times profile n)
     unfolding times _>>_ _>>=_
     times-open zero i = opened (inLines (here-mild 5 refl))
     times-open (suc n) i = bind (inLines ahead-mild) λ x. passing-open (andThen (inLines expression-mild)
@@ -371,7 +371,7 @@ module _ (table : List ℕ) where
       stopped : {r : Refusal} → Mild r → Next (refused r) (refused r)
       lacks : {f t : ℕ} {q : Answer State Bool} → Pending b bs q → Next (refused (at 34 f t)) q
       halts : {w : List Record} {u : State} {n : ℕ} → Ending u → refusedAs (b .first .kind) ≡ some n → Next (done w true u) (refused (at n (b .first .from) (b .first .to)))
-      none-left : (u : State) → Ending u → Next (done [] false u) (thence (coming b bs) (λ _. begun table))
+      none-left : (u : State) → Ending u → Next (done [] false u) (thence (coming b bs) (λ _. begun profile))
 
     went-on : {p q : Answer State (Unit {0})} → Agree b bs true (Open es b bs) p q → Next (thence p (λ _. return true)) (thence q (λ _. return true))
     unfolding return thence after
@@ -388,36 +388,36 @@ module _ (table : List ℕ) where
     })
     went-on (halted l e h) = halts e h
 
-    read-next : (x : Lexeme) {s t : State} → (In es b bs) s t → Next ((write (ST (x .from)) >> line table (times table 16) >> return true) s) ((write (ST (x .from)) >> line table (times table 16) >> return true) t)
+    read-next : (x : Lexeme) {s t : State} → (In es b bs) s t → Next ((write (ST (x .from)) >> line profile (times profile 16) >> return true) s) ((write (ST (x .from)) >> line profile (times profile 16) >> return true) t)
     unfolding _>>_ _>>=_
-    read-next x h = went-on (thence-agree (λ _. line table (times table 16)) (λ _. line-open (times-open 16 (omega arith))) (writes _ .law h))
+    read-next x h = went-on (thence-agree (λ _. line profile (times profile 16)) (λ _. line-open (times-open 16 (omega arith))) (writes _ .law h))
 
     plain-next : {p q : Answer State Bool} → Next p q → Next (after [] p) (after [] q)
     plain-next {p} {q} h = rw (after-nil p, after-nil q) h
 
-    begun-next : {s t : State} → (In es b bs) s t → isLineEnd (s .line .here .kind) ≡ false → Next (begun table s) (begun table t)
+    begun-next : {s t : State} → (In es b bs) s t → isLineEnd (s .line .here .kind) ≡ false → Next (begun profile s) (begun profile t)
     unfolding begun _>>=_ thence inLine over ahead
     begun-next (inside l rs) h = plain-next (rw h (read-next (l .here) (inside l rs)))
 
-    next-skipped : {p q : Answer State (Unit {0})} → (Skipped es b bs) p q → Next (thence p (λ _. begun table)) (thence q (λ _. begun table))
+    next-skipped : {p q : Answer State (Unit {0})} → (Skipped es b bs) p q → Next (thence p (λ _. begun profile)) (thence q (λ _. begun profile))
     unfolding thence
     next-skipped (still i h) = plain-next (begun-next i h)
     next-skipped (Skipped.stopped m) = Next.stopped m
-    next-skipped (reached u e) = rw (after-nil (begun table u), begun-ends u e) (none-left u e)
+    next-skipped (reached u e) = rw (after-nil (begun profile u), begun-ends u e) (none-left u e)
 
-    thence-coming : thence (coming b bs) (λ _. begun table) ≡ arrive (b .first) (statement table (enter b bs))
+    thence-coming : thence (coming b bs) (λ _. begun profile) ≡ arrive (b .first) (statement profile (enter b bs))
     unfolding coming arrive statement _>>_ _>>=_ thence
     thence-coming = go′ (refusedAs (b .first .kind))
       where
-        go′ : (o : Option ℕ) → thence (maybe o (skipLines (enter b bs)) (λ n. refused (at n (b .first .from) (b .first .to)))) (λ _. begun table)
-            ≡ maybe o (thence (skipLines (enter b bs)) (λ _. begun table)) (λ n. refused (at n (b .first .from) (b .first .to)))
+        go′ : (o : Option ℕ) → thence (maybe o (skipLines (enter b bs)) (λ n. refused (at n (b .first .from) (b .first .to)))) (λ _. begun profile)
+            ≡ maybe o (thence (skipLines (enter b bs)) (λ _. begun profile)) (λ n. refused (at n (b .first .from) (b .first .to)))
         go′ none = refl
         go′ (some n) = refl
 
-    pub statement-next : {s t : State} → Open es b bs s t → Next (statement table s) (statement table t)
+    pub statement-next : {s t : State} → Open es b bs s t → Next (statement profile s) (statement profile t)
     unfolding statement _>>_ _>>=_ coming
     statement-next (within h) = next-skipped (skipLines-skipped h)
-    statement-next (ended u e h) = rw (statement-ends u e, ← arrive-fine (b .first) (statement table (enter b bs)) h, ← thence-coming) (none-left u e)
+    statement-next (ended u e h) = rw (statement-ends u e, ← arrive-fine (b .first) (statement profile (enter b bs)) h, ← thence-coming) (none-left u e)
 
     -- What the second reading does where the first gives p.
     pub data Follows : Answer State (Unit {0}) → Answer State (Unit {0}) → Type 0 where
@@ -435,12 +435,12 @@ module _ (table : List ℕ) where
     halt n h Continues.fail = broken h
 
     -- the run at the further rows
-    begins : {q : Answer State (Unit {0})} → Continues (thence (coming b bs) (λ _. begun table)) q → Begins (b ∷ bs) q
+    begins : {q : Answer State (Unit {0})} → Continues (thence (coming b bs) (λ _. begun profile)) q → Begins (b ∷ bs) q
     begins {q} c = go′ (refusedAs (b .first .kind)) refl (rw thence-coming at c)
       where
-        go′ : (o : Option ℕ) → refusedAs (b .first .kind) ≡ o → Continues (arrive (b .first) (statement table (enter b bs))) q → Begins (b ∷ bs) q
-        go′ none h d = fine h (reads refl (rw (arrive-fine (b .first) (statement table (enter b bs)) h) at d))
-        go′ (some n) h d = halt n h (rw (arrive-bad (b .first) (statement table (enter b bs)) n h) at d)
+        go′ : (o : Option ℕ) → refusedAs (b .first .kind) ≡ o → Continues (arrive (b .first) (statement profile (enter b bs))) q → Begins (b ∷ bs) q
+        go′ none h d = fine h (reads refl (rw (arrive-fine (b .first) (statement profile (enter b bs)) h) at d))
+        go′ (some n) h d = halt n h (rw (arrive-bad (b .first) (statement profile (enter b bs)) n h) at d)
 
     plainly : {w : List Record} {u : State} {q : Answer State (Unit {0})} → w ≡ [] → Begins (b ∷ bs) q → Follows (done w tt u) q
     plainly {w} {u} {q} h g = rw (h, ← after-nil q) (on g)

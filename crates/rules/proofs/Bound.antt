@@ -19,7 +19,7 @@ use Rattle.rules.specs.Lexemes.{kindOf, Lexeme, isGap, lexeme, put, toke
 use Rattle.rules.specs.Records.{Record, listing}
 use Rattle.rules.specs.Reader.{Refusal, at, Answer, done, refused, after, arrive, refusedAs}
 use Rattle.rules.specs.Operands.{isWord, isNumber}
-use Rattle.rules.specs.Statements.{Row, State, rows, firstOf, enter, statement, accepted, readFrom, reading}
+use Rattle.rules.specs.Statements.{Profile, Row, State, rows, firstOf, enter, statement, accepted, readFrom, reading}
 use Rattle.rules.specs.Calls.{oneRead}
 use Rattle.rules.proofs.Table.{Proper}
 use Rattle.rules.proofs.Append.{Reads, Begins, fine, broken}
@@ -148,7 +148,7 @@ spaced p zero (c ∷ cs) m h =
 never : {S A : Type 0} {r : Refusal} {w : List Record} {a : A} {t : S} → refused r ≡ done w a t → ⊥
 never e = true≢false cc
 
-module _ (table : List ℕ) (proper : Proper table) where
+module _ (profile : Profile) (proper : Proper (profile .table)) where
   module _ (n hi : ℕ) where
     stop-bound : {d : ℕ} {w : List Record} {b : Bool} {t : State} → Post Writes (λ _. OnS n hi 6 6) d (done w b t) → d + weight w ≤ 18 * n
     stop-bound (holds {s = t} r q) =
@@ -163,26 +163,26 @@ module _ (table : List ℕ) (proper : Proper table) where
     go-bound : {d : ℕ} {w : List Record} {t : State} (p : Answer State (Unit {0})) → ((d : ℕ) → OnS n hi 6 6 d t → Bounded n d p) → Post Writes (λ _. OnS n hi 6 6) d (done w true t) → Bounded n d (after w p)
     go-bound {d} p again (holds {w = w} r q) = after-bound d w p (rw (run-weight r) at (again _ q))
 
-    reads-bound : {s : State} {p : Answer State (Unit {0})} → Reads table s p → (d : ℕ) → OnS n hi 6 6 d s → Bounded n d p
-    reads-bound (Reads.stop {s} z) d h = stop-bound (rw z at (statement-on table proper n hi .law d s h))
+    reads-bound : {s : State} {p : Answer State (Unit {0})} → Reads profile s p → (d : ℕ) → OnS n hi 6 6 d s → Bounded n d p
+    reads-bound (Reads.stop {s} z) d h = stop-bound (rw z at (statement-on profile proper n hi .law d s h))
     reads-bound (Reads.fail z) d h = tt
-    reads-bound (Reads.go {s} {p = p} z r) d h = go-bound p (λ d′ h′. reads-bound r d′ h′) (rw z at (statement-on table proper n hi .law d s h))
+    reads-bound (Reads.go {s} {p = p} z r) d h = go-bound p (λ d′ h′. reads-bound r d′ h′) (rw z at (statement-on profile proper n hi .law d s h))
 
     enter-on : (r : Row) (rs : List Row) → Chain n hi 0 (flat (r ∷ rs)) → Spaced (flat (r ∷ rs)) → OnS n hi 6 6 0 (enter r rs)
     unfolding enter firstOf
     enter-on r rs c p = record { paid = omega arith; chain = c; spaced = p }
 
-    begins-bound : (l : List Row) {p : Answer State (Unit {0})} → Begins table l p → Chain n hi 0 (flat l) → Spaced (flat l) → Bounded n 0 p
+    begins-bound : (l : List Row) {p : Answer State (Unit {0})} → Begins profile l p → Chain n hi 0 (flat l) → Spaced (flat l) → Bounded n 0 p
     begins-bound l (fine {r} {rs} f g) c p = reads-bound g 0 (enter-on r rs c p)
     begins-bound l (broken f) c p = tt
 
-    one-bound : (l : List Row) {w : List Record} {b : Bool} {t : State} → oneRead table l ≡ done w b t → Chain n hi 0 (flat l) → Spaced (flat l) → 0 + weight w ≤ 18 * n
+    one-bound : (l : List Row) {w : List Record} {b : Bool} {t : State} → oneRead profile l ≡ done w b t → Chain n hi 0 (flat l) → Spaced (flat l) → 0 + weight w ≤ 18 * n
     unfolding oneRead arrive
     one-bound [] e c p = absurd (never e)
     one-bound (r ∷ rs) {w} {b} {t} e c p = go (refusedAs (r .first .kind)) e
       where
-        go : (o : Option ℕ) → maybe o (statement table (enter r rs)) (λ m. refused (at m (r .first .from) (r .first .to))) ≡ done w b t → 0 + weight w ≤ 18 * n
-        go none e = stop-bound (rw e at (statement-on table proper n hi .law 0 (enter r rs) (enter-on r rs c p)))
+        go : (o : Option ℕ) → maybe o (statement profile (enter r rs)) (λ m. refused (at m (r .first .from) (r .first .to))) ≡ done w b t → 0 + weight w ≤ 18 * n
+        go none e = stop-bound (rw e at (statement-on profile proper n hi .law 0 (enter r rs) (enter-on r rs c p)))
         go (some m) e = absurd (never e)
 
   -- The reading of bytes that stand from place p on; of one statement there; of a source.
@@ -193,20 +193,20 @@ module _ (table : List ℕ) (proper : Proper table) where
         let f : flat (rows (tokensFrom p 0 s)) ≡ tokensFrom p 0 s = flat-rows (tokensFrom p 0 s) in
         (rw f (chain-low (p + length s) (p + length s) p 0 (tokensFrom p 0 s) zero-le (chain-plain p s m)), rw f (spaced p 0 s m zero-le))
 
-    pub bounded-from : (w : List Record) → readFrom table p s ≡ accepted w → length (listing w) ≤ 18 * (p + length s)
+    pub bounded-from : (w : List Record) → readFrom profile p s ≡ accepted w → length (listing w) ≤ 18 * (p + length s)
     bounded-from w e =
-        let (u, g) = accepts-run table p s w e in
+        let (u, g) = accepts-run profile p s w e in
         let (c, d) = first-chain in
         let b : 0 + weight w ≤ 18 * (p + length s) = begins-bound (p + length s) (p + length s) (rowsFrom p s) g c d in
         omega arith
 
-    pub bounded-one : {w : List Record} {b : Bool} {t : State} → oneRead table (rows (tokensFrom p 0 s)) ≡ done w b t → length (listing w) ≤ 18 * (p + length s)
+    pub bounded-one : {w : List Record} {b : Bool} {t : State} → oneRead profile (rows (tokensFrom p 0 s)) ≡ done w b t → length (listing w) ≤ 18 * (p + length s)
     unfolding rowsFrom
     bounded-one {w} e =
         let (c, d) = first-chain in
         let b : 0 + weight w ≤ 18 * (p + length s) = one-bound (p + length s) (p + length s) (rows (tokensFrom p 0 s)) e c d in
         omega arith
 
-  pub bounded : (s : List ℕ) (w : List Record) → Small s → reading table s ≡ accepted w → length (listing w) ≤ 18 * length s
+  pub bounded : (s : List ℕ) (w : List Record) → Small s → reading profile s ≡ accepted w → length (listing w) ≤ 18 * length s
   unfolding reading
   bounded s w m e = omega (arith, bounded-from 0 s m w e)

@@ -11,7 +11,7 @@ use borrow.Author.Tests.{le-ltb, ltb-false}
 use Rattle.lexer.specs.Text.{if_then_else_, maybe}
 use Rattle.rules.specs.Records.{Record, listing}
 use Rattle.rules.specs.Reader.{Refusal, at, nowhere}
-use Rattle.rules.specs.Statements.{Outcome, accepted, refusal, reading}
+use Rattle.rules.specs.Statements.{Profile, Outcome, accepted, refusal, reading}
 use Rattle.rules.specs.Calls.{Result, gives, refuses, unless, mostBytes, tooLong, foreign, ascii, lent, lentAt, inRoom, listed, fullRead}
 use Rattle.rules.proofs.Shape.{UpTo, up-to-more, Small}
 
@@ -88,14 +88,14 @@ listed-gives room (accepted v) w h = let (i, j) = room-gives room v v w h in cc
 listed-gives room (refusal r) w h = absurd (true≢false cc)
 
 -- What an accepted full read says.
-pub record Accepted (table s : List ℕ) (w : List Record) : Type 0 where
+pub record Accepted (profile : Profile) (s : List ℕ) (w : List Record) : Type 0 where
   pub readable : Readable s
   pub short : length s ≤ 65536
   pub small : Small s
-  pub reads : reading table s ≡ accepted w
+  pub reads : reading profile s ≡ accepted w
 
-pub accepted-call : (table s : List ℕ) (room : ℕ) (w : List Record) → fullRead table s room ≡ gives w → Accepted table s w
+pub accepted-call : (profile : Profile) (s : List ℕ) (room : ℕ) (w : List Record) → fullRead profile s room ≡ gives w → Accepted profile s w
 unfolding fullRead
-accepted-call table s room w h =
-    let l : Lent (List Record) s (listed room (reading table s)) w = lent-gives s (listed room (reading table s)) w h in
-    record { readable = l .readable; short = l .readable .short; small = l .small; reads = listed-gives room (reading table s) w (l .given) }
+accepted-call profile s room w h =
+    let l : Lent (List Record) s (listed room (reading profile s)) w = lent-gives s (listed room (reading profile s)) w h in
+    record { readable = l .readable; short = l .readable .short; small = l .small; reads = listed-gives room (reading profile s) w (l .given) }

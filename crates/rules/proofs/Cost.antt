@@ -286,11 +286,11 @@ module _ (n hi D : ℕ) (rest : List Lexeme) where
   label-on m x = kindThen _ λ y g. andThen (whether (isMark ":" (y .kind)) (λ e. behind (λ _ d s h. on-less (omega arith) h) (past y g (mark-inside ":" (y .kind) e))) (λ _. returns tt (λ d s h. h .1)))
       (λ _. pays {m = m} _ 10 (le-refl 10))
 
-  module _ {others : Reader Line (List ℕ)} (more′ : (m : ℕ) → Triple Writes (On m) others (λ ds. On (m + length ds))) where
+  module _ (takes : ℕ → ℕ → Bool) {others : Reader Line (List ℕ)} (more′ : (m : ℕ) → Triple Writes (On m) others (λ ds. On (m + length ds))) where
     chunk : (m k : ℕ) (x : Lexeme) (g : List ℕ) → k + x .from ≤ x .to → length g ≤ 18 * k → Triple Writes (Here x m) (next >> others >>= λ ds. return (g ++ ds)) (λ ds. On (m + length ds))
     chunk m k x g i j = bind (andThen (nexts x k i) (λ _. more′ (m + 18 * k))) λ ds. returns (g ++ ds) (λ d s h. on-less (omega (arith, length-append g ds)) h)
 
-    literalOf-on : (m : ℕ) (k : Kind) (x : Lexeme) (width : ℕ) → x .kind ≡ k → Sound hi x → Triple Writes (Here x m) (literalOf k width others) (λ ds. On (m + length ds))
+    literalOf-on : (m : ℕ) (k : Kind) (x : Lexeme) (width : ℕ) → x .kind ≡ k → Sound hi x → Triple Writes (Here x m) (literalOf takes k width others) (λ ds. On (m + length ds))
     unfolding literalOf isLineEnd
     literalOf-on m newline x width e f = returns [] (λ d s h. on-less (omega arith) (h .1))
     literalOf-on m end x width e f = returns [] (λ d s h. on-less (omega arith) (h .1))
@@ -298,14 +298,15 @@ module _ (n hi D : ℕ) (rest : List Lexeme) where
     literalOf-on m (quoted shut g) x width e f =
         let z : Holds (quoted shut g) (x .from) (x .to) = rw e at (f .holds) in
         whether shut (λ _. chunk m (suc (length g)) x g (z .0) (omega arith)) (λ _. here-fails 26)
-    literalOf-on m (number v) x width e f = chunk m 1 x (take width (field v)) (omega (arith, f .strict (ap isLineEnd e) .0)) (omega (arith, width-four width v))
+    literalOf-on m (number v) x width e f = whether (takes width v)
+        (λ _. chunk m 1 x (take width (field v)) (omega (arith, f .strict (ap isLineEnd e) .0)) (omega (arith, width-four width v))) (λ _. here-fails 60)
     literalOf-on m (word w) x width e f = here-fails 15
     literalOf-on m blank x width e f = here-fails 15
     literalOf-on m comment x width e f = here-fails 15
     literalOf-on m invalid x width e f = here-fails 15
     literalOf-on m (bad b) x width e f = here-fails 15
 
-  pub literals-on : (k m width : ℕ) → Triple Writes (On m) (literals k width) (λ ds. On (m + length ds))
+  pub literals-on : (takes : ℕ → ℕ → Bool) (k m width : ℕ) → Triple Writes (On m) (literals takes k width) (λ ds. On (m + length ds))
   unfolding literals
-  literals-on zero m width = returns [] (λ d s h. on-less (omega arith) h)
-  literals-on (suc k) m width = kindThen _ λ x f. literalOf-on (λ j. literals-on k j width) m (x .kind) x width refl f
+  literals-on takes zero m width = returns [] (λ d s h. on-less (omega arith) h)
+  literals-on takes (suc k) m width = kindThen _ λ x f. literalOf-on takes (λ j. literals-on takes k j width) m (x .kind) x width refl f

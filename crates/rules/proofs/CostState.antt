@@ -17,7 +17,7 @@ use Rattle.names.specs.Names.{directives, named, operationNamed, placeFrom}
 use Rattle.rules.specs.Records.{Record, LT, field, fields, encode}
 use Rattle.rules.specs.Reader.{at, done, Reader, Line, thence, _>>=_, _>>_, write, arrive, ahead, kind, passed, isLineEnd}
 use Rattle.rules.specs.Operands.{isWord}
-use Rattle.rules.specs.Statements.{Row, State, over, inLine, firstOf, enter, stepRow, nextRow, lineEnd, skip, skipLines, passing, rep, repne, instruction, constant, someData, dataOf, line, content, times, begun, statement}
+use Rattle.rules.specs.Statements.{Profile, Row, State, over, inLine, firstOf, enter, stepRow, nextRow, lineEnd, skip, skipLines, passing, rep, repne, instruction, constant, someData, dataOf, line, content, times, begun, statement}
 use Rattle.rules.proofs.TokenKinds.{word-inside, asked}
 use Rattle.rules.proofs.Table.{Proper, same-length}
 use Rattle.rules.proofs.Shape.{Holds, Sound, chain-low}
@@ -139,18 +139,18 @@ module _ (n hi D : ℕ) where
   someData-on m x [] = refuses _
   someData-on m x (b ∷ bs) = passedS λ t. andThen (lineEnd-on _) (λ _. before (λ d s h. less s (omega arith) h) (paysS {m = m + 6} _ (14 + length (b ∷ bs)) (omega arith)))
 
-  dataOf-on : (m : ℕ) (x : Lexeme) (width : ℕ) → Triple Writes (OnS (m + 36)) (dataOf x width) (λ _. OnS (m + 6))
+  dataOf-on : (takes : ℕ → ℕ → Bool) (m : ℕ) (x : Lexeme) (width : ℕ) → Triple Writes (OnS (m + 36)) (dataOf takes x width) (λ _. OnS (m + 6))
   unfolding dataOf
-  dataOf-on m x width = askLeftS λ k. bind (inLines (λ rs. On n hi D (flat rs) (m + 36)) (λ rs ds. On n hi D (flat rs) (m + 36 + length ds)) (λ rs. literals-on n hi D (flat rs) (suc k) (m + 36) width)) λ ds. someData-on m x ds
+  dataOf-on takes m x width = askLeftS λ k. bind (inLines (λ rs. On n hi D (flat rs) (m + 36)) (λ rs ds. On n hi D (flat rs) (m + 36 + length ds)) (λ rs. literals-on n hi D (flat rs) takes (suc k) (m + 36) width)) λ ds. someData-on m x ds
 
   two : (x : Lexeme) (r : ℕ) → Sound hi x → nameIn directives (x .kind) ≡ some r → 2 + x .from ≤ x .to
   unfolding nameIn
   two x r f e = asked-long (x .kind) (named directives) r (x .from) (x .to) directive-long e (f .holds)
 
-  module _ (table : List ℕ) (proper : Proper table) where
-    two-operation : (x : Lexeme) (r : ℕ) → Sound hi x → operationIn table (x .kind) ≡ some r → 2 + x .from ≤ x .to
+  module _ (profile : Profile) (proper : Proper (profile .table)) where
+    two-operation : (x : Lexeme) (r : ℕ) → Sound hi x → operationIn (profile .table) (x .kind) ≡ some r → 2 + x .from ≤ x .to
     unfolding operationIn
-    two-operation x r f e = asked-long (x .kind) (operationNamed table) r (x .from) (x .to) (λ w r h. proper .long w r h) e (f .holds)
+    two-operation x r f e = asked-long (x .kind) (operationNamed (profile .table)) r (x .from) (x .to) (λ w r h. proper .long w r h) e (f .holds)
 
     passing-on : (m k : ℕ) (x : Lexeme) → k + x .from ≤ x .to → {f : Reader State (Unit {0})} {R : Unit {0} → ℕ → State → Type 0} → Triple Writes (λ d s. Wide n hi D (flat (s .below)) (x .kind) (m + 18 * k) d (s .line)) f R
         → Triple Writes (λ d s. (s .line .here ≡ x) × OnS m d s) (passing f) R
@@ -158,16 +158,16 @@ module _ (n hi D : ℕ) where
     passing-on m k x i p = andThen (inLines (λ rs. Here n hi D (flat rs) x m) (λ rs _. Wide n hi D (flat rs) (x .kind) (m + 18 * k)) (λ rs. wide-nexts n hi D (flat rs) x k i)) (λ _. p)
 
     module _ {times′ : Reader State (Unit {0})} (nested : (m : ℕ) (x : Lexeme) → Sound hi x → 2 + x .from ≤ x .to → Triple Writes (λ d s. (s .line .here ≡ x) × OnS m d s) times′ (λ _. OnS (m + 6))) where
-      line-on : (m : ℕ) → Triple Writes (OnS m) (line table times′) (λ _. OnS (m + 6))
+      line-on : (m : ℕ) → Triple Writes (OnS m) (line profile times′) (λ _. OnS (m + 6))
       unfolding line
-      line-on m = aheadS λ x f. perhaps (operationIn table (x .kind))
+      line-on m = aheadS λ x f. perhaps (operationIn (profile .table) (x .kind))
           (perhaps (nameIn directives (x .kind))
           (whether (isWord (x .kind)) (λ w. passing-on m 1 x (omega (arith, f .strict (word-inside (x .kind) w) .0)) (before (λ d s h. less s (omega arith) (h .0)) (inOn (m + 6 + 10) (m + 6) (λ rest. label-on n hi D rest (m + 6) x)))) (λ _. here-failsS 20))
           λ r e. whether (eqb r 0) (λ _. passing-on m 2 x (two x r f e) (before (λ d s h. less s (omega arith) (h .0)) (constant-on m x)))
-          (λ _. whether (ltb r 3) (λ _. passing-on m 2 x (two x r f e) (before (λ d s h. less s (omega arith) (h .0)) (dataOf-on m x r))) (λ _. nested m x f (two x r f e))))
-          λ op e. passing-on m 2 x (two-operation x op f e) (instruction-on m x op (operation-word table (x .kind) op e))
+          (λ _. whether (ltb r 3) (λ _. passing-on m 2 x (two x r f e) (before (λ d s h. less s (omega arith) (h .0)) (dataOf-on (profile .takes) m x r))) (λ _. nested m x f (two x r f e))))
+          λ op e. passing-on m 2 x (two-operation x op f e) (instruction-on m x op (operation-word (profile .table) (x .kind) op e))
 
-      content-on : (m : ℕ) (x : Lexeme) → Triple Writes (OnS (m + 4)) (content table times′ x) (λ _. OnS m)
+      content-on : (m : ℕ) (x : Lexeme) → Triple Writes (OnS (m + 4)) (content profile times′ x) (λ _. OnS m)
       unfolding content encode fields field bytes
       content-on m x = kindS _ λ y f. andThen (whether (isLineEnd (y .kind)) (λ _. refuses _) (λ _. line-on (m + 4)))
           (λ _. before (λ d s h. less s (omega arith) h) (paysS {m = m} LT 10 (le-refl 10)))
@@ -176,20 +176,20 @@ module _ (n hi D : ℕ) where
     unfolding ahead _>>=_ thence inLine over
     aheadHereS f {R} x e = record { law = λ d s h. after-post nil (subst (λ (y : Lexeme). Post Writes R d (f y s)) (sym (h .0)) (e .law d s h)) }
 
-    times-on : (k m : ℕ) (x : Lexeme) → Sound hi x → 2 + x .from ≤ x .to → Triple Writes (λ d s. (s .line .here ≡ x) × OnS m d s) (times table k) (λ _. OnS (m + 6))
+    times-on : (k m : ℕ) (x : Lexeme) → Sound hi x → 2 + x .from ≤ x .to → Triple Writes (λ d s. (s .line .here ≡ x) × OnS m d s) (times profile k) (λ _. OnS (m + 6))
     unfolding times
     times-on zero m x f i = here-failsS 5
     times-on (suc k) m x f i = aheadHereS _ x (passing-on m 2 x i (before (λ d s h. h .0) (andThen (inOn (m + 36) (m + 36 + 4) (λ rest. expression-on n hi D rest (m + 36)))
         (λ _. andThen (skipLines-on (m + 36 + 4)) (λ _. behind (λ _ d s h. less s (omega arith) h) (content-on (times-on k) (m + 36) x))))))
 
 -- Between statements: what is written is paid for by the bytes before the token ahead.
-module _ (table : List ℕ) (proper : Proper table) (n hi : ℕ) where
-  begun-on : Triple Writes (OnS n hi 6 6) (begun table) (λ _. OnS n hi 6 6)
+module _ (profile : Profile) (proper : Proper (profile .table)) (n hi : ℕ) where
+  begun-on : Triple Writes (OnS n hi 6 6) (begun profile) (λ _. OnS n hi 6 6)
   unfolding begun encode fields field bytes
   begun-on = aheadS n hi 6 λ x f. before (λ d s h. h .1) (whether (isLineEnd (x .kind)) (λ _. returns false (λ d s h. h))
-      (λ _. andThen (andThen (before (λ d s h. less n hi 6 s (omega arith) h) (paysS n hi 6 {m = 0} _ 6 (le-refl 6))) (λ _. line-on n hi 6 table proper (times-on n hi 6 table proper 16) 0))
+      (λ _. andThen (andThen (before (λ d s h. less n hi 6 s (omega arith) h) (paysS n hi 6 {m = 0} _ 6 (le-refl 6))) (λ _. line-on n hi 6 profile proper (times-on n hi 6 profile proper 16) 0))
       (λ _. returns true (λ d s h. less n hi 6 s (omega arith) h))))
 
-  pub statement-on : Triple Writes (OnS n hi 6 6) (statement table) (λ _. OnS n hi 6 6)
+  pub statement-on : Triple Writes (OnS n hi 6 6) (statement profile) (λ _. OnS n hi 6 6)
   unfolding statement
   statement-on = andThen (skipLines-on n hi 6 6) (λ _. begun-on)

@@ -14,7 +14,7 @@ use Rattle.rules.specs.Records.{IN, field}
 use Rattle.rules.specs.Reader.{Refusal, Answer, done, refused, Reader, Line, after, thence, _>>=_, _>>_, return, write, step, next, ahead, kind, passed, isMark, isLineEnd}
 use Rattle.rules.specs.Expressions.{operatorOf, leftLevel, rightLevel, infixes, expr}
 use Rattle.rules.specs.Operands.{immediateOrFar, memory, operandSized}
-use Rattle.rules.specs.Statements.{rows, over, inLine, literalOf, literals, readRows}
+use Rattle.rules.specs.Statements.{Profile, rows, over, inLine, literalOf, literals, readRows}
 use Rattle.rules.specs.Grammar.{LineOf}
 use Rattle.rules.specs.Claims.{CountersSuffice}
 use Rattle.rules.proofs.Grammar.{line-ended}
@@ -152,41 +152,43 @@ operands-same (suc n) (suc m) size l h b = ap (after []) (whether (isMark "[" k)
     p : ℕ
     p = l .here .to
 
-literals-end : (n width p : ℕ) → literals n width (endLine p) ≡ done [] [] (endLine p)
-unfolding literals literalOf kind _>>=_ thence return after
-literals-end zero width p = refl
-literals-end (suc n) width p = refl
+-- the literals, whichever numbers are taken
+module _ (takes : ℕ → ℕ → Bool) where
+  literals-end : (n width p : ℕ) → literals takes n width (endLine p) ≡ done [] [] (endLine p)
+  unfolding literals literalOf kind _>>=_ thence return after
+  literals-end zero width p = refl
+  literals-end (suc n) width p = refl
 
-literalOf-same : (k : Kind) (width : ℕ) (R R′ : Reader Line (List ℕ)) (l : Line) → Agree l (next >> R) (next >> R′) → Agree l (literalOf k width R) (literalOf k width R′)
-unfolding literalOf _>>=_
-literalOf-same newline width R R′ l h = itself _
-literalOf-same end width R R′ l h = itself _
-literalOf-same (mark c) width R R′ l h = whether (is "," c) h (itself _)
-literalOf-same (quoted b s) width R R′ l h = whether b (record { law = ap (λ (p : Answer Line (List ℕ)). thence p (λ ds. return (s ++ ds))) (h .law) }) (itself _)
-literalOf-same (number v) width R R′ l h = record { law = ap (λ (p : Answer Line (List ℕ)). thence p (λ ds. return (take width (field v) ++ ds))) (h .law) }
-literalOf-same (word w) width R R′ l h = itself _
-literalOf-same blank width R R′ l h = itself _
-literalOf-same comment width R R′ l h = itself _
-literalOf-same invalid width R R′ l h = itself _
-literalOf-same (bad r) width R R′ l h = itself _
+  literalOf-same : (k : Kind) (width : ℕ) (R R′ : Reader Line (List ℕ)) (l : Line) → Agree l (next >> R) (next >> R′) → Agree l (literalOf takes k width R) (literalOf takes k width R′)
+  unfolding literalOf _>>=_
+  literalOf-same newline width R R′ l h = itself _
+  literalOf-same end width R R′ l h = itself _
+  literalOf-same (mark c) width R R′ l h = whether (is "," c) h (itself _)
+  literalOf-same (quoted b s) width R R′ l h = whether b (record { law = ap (λ (p : Answer Line (List ℕ)). thence p (λ ds. return (s ++ ds))) (h .law) }) (itself _)
+  literalOf-same (number v) width R R′ l h = whether (takes width v) (record { law = ap (λ (p : Answer Line (List ℕ)). thence p (λ ds. return (take width (field v) ++ ds))) (h .law) }) (itself _)
+  literalOf-same (word w) width R R′ l h = itself _
+  literalOf-same blank width R R′ l h = itself _
+  literalOf-same comment width R R′ l h = itself _
+  literalOf-same invalid width R R′ l h = itself _
+  literalOf-same (bad r) width R R′ l h = itself _
 
-literals-same : (n m width : ℕ) (l : Line) → n ≤ m → length (l .more) < n → literals m width l ≡ literals n width l
-unfolding literals literalOf kind _>>=_ thence
-literals-same zero m width l h b = absurd (omega arith)
-literals-same (suc n) zero width l h b = absurd (omega arith)
-literals-same (suc n) (suc m) width l h b = ap (after []) (literalOf-same (l .here .kind) width (literals m width) (literals n width) l
-    (next-same (literals m width) (literals n width) l (literals-end m width (l .here .to) ∙ sym (literals-end n width (l .here .to))) (λ t i. literals-same n m width t (omega arith) (omega arith))) .law)
+  literals-same : (n m width : ℕ) (l : Line) → n ≤ m → length (l .more) < n → literals takes m width l ≡ literals takes n width l
+  unfolding literals literalOf kind _>>=_ thence
+  literals-same zero m width l h b = absurd (omega arith)
+  literals-same (suc n) zero width l h b = absurd (omega arith)
+  literals-same (suc n) (suc m) width l h b = ap (after []) (literalOf-same (l .here .kind) width (literals takes m width) (literals takes n width) l
+      (next-same (literals takes m width) (literals takes n width) l (literals-end m width (l .here .to) ∙ sym (literals-end n width (l .here .to))) (λ t i. literals-same n m width t (omega arith) (omega arith))) .law)
 
-statements-same : (table : List ℕ) (p : ℕ) (s : List ℕ) (n : ℕ) → suc (length s) ≤ n → readRows table n (rows (tokensFrom p 0 s)) ≡ readRows table (suc (length s)) (rows (tokensFrom p 0 s))
+statements-same : (profile : Profile) (p : ℕ) (s : List ℕ) (n : ℕ) → suc (length s) ≤ n → readRows profile n (rows (tokensFrom p 0 s)) ≡ readRows profile (suc (length s)) (rows (tokensFrom p 0 s))
 unfolding rowsFrom
-statements-same table p s zero h = absurd (omega arith)
-statements-same table p s (suc n) h = begins-only table (gives-with table p s n (omega arith)) (gives table p s)
+statements-same profile p s zero h = absurd (omega arith)
+statements-same profile p s (suc n) h = begins-only profile (gives-with profile p s n (omega arith)) (gives profile p s)
 
 -- THE COUNTERS ARE ENOUGH.
-pub counters-suffice : (table : List ℕ) → CountersSuffice table
-counters-suffice table = record {
+pub counters-suffice : (profile : Profile) → CountersSuffice profile
+counters-suffice profile = record {
   ofInfixes = λ {p} {s} {l} r n d level f h. infixes-same d (length (l .more)) n level f l h (line-within r);
   ofOperands = λ l n size h. operands-same (suc (length (l .more))) n size l h (omega arith);
-  ofLiterals = λ l n width h. literals-same (suc (length (l .more))) n width l h (omega arith);
-  ofStatements = λ p s n h. statements-same table p s n h;
+  ofLiterals = λ l n width h. literals-same (profile .takes) (suc (length (l .more))) n width l h (omega arith);
+  ofStatements = λ p s n h. statements-same profile p s n h;
 }

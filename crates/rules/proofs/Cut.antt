@@ -14,7 +14,7 @@ use Rattle.lexer.specs.declared.TokenRead.{TokenRead}
 use Rattle.rules.specs.Lexemes.{newline, Lexeme, isGap, kindOf, put, lexeme, tokensFrom}
 use Rattle.rules.specs.Records.{Record, ST, LT, moveRecord}
 use Rattle.rules.specs.Reader.{Refusal, at, nowhere, encoding, Answer, done, refused, Reader, Line, after, thence, _>>=_, _>>_, return, write, refusedAs, arrive, ahead, kind, isLineEnd}
-use Rattle.rules.specs.Statements.{Row, State, over, inLine, firstOf, enter, rows, push, skip, skipLines, line, content, times, begun, statement, statements, readRows, accepted, refusal, outcome, readFrom}
+use Rattle.rules.specs.Statements.{Profile, Row, State, over, inLine, firstOf, enter, rows, push, skip, skipLines, line, content, times, begun, statement, statements, readRows, accepted, refusal, outcome, readFrom}
 use Rattle.rules.proofs.Move.{same, carry, after-carry, Mild, moveToken, moveRefusal, moveLine}
 use Rattle.rules.proofs.MoveState.{moveRow, moveState, statement-shifts, unit-state, unit-row}
 use Rattle.lexer.proofs.Branches.{and-split}
@@ -285,38 +285,38 @@ unfolding outcome
 run-refused (done v x u) r e = absurd (true≢false cc)
 run-refused (refused q) r e = cc
 
-module _ (table : List ℕ) where
+module _ (profile : Profile) where
   -- what comes of equal answers
-  refused-open : {r : Refusal} {q : Answer State (Unit {0})} → Continues table (refused r) q → IsOpen q → Lack r
+  refused-open : {r : Refusal} {q : Answer State (Unit {0})} → Continues profile (refused r) q → IsOpen q → Lack r
   refused-open Continues.fail h = h
 
-  open-refused : {r : Refusal} {q : Answer State (Unit {0})} → Continues table (refused r) q → Lack r → IsOpen q
+  open-refused : {r : Refusal} {q : Answer State (Unit {0})} → Continues profile (refused r) q → Lack r → IsOpen q
   open-refused Continues.fail h = h
 
-  true-open : {w v : List Record} {t : State} {q q′ : Answer State (Unit {0})} → Continues table (done w true t) q → Continues table (done v true t) q′ → IsOpen q → IsOpen q′
-  true-open {w} {v} (Continues.go {p = p} g) (Continues.go {p = p′} g′) h = after-open v p′ (rw (only table g g′) at (open-after w p h))
+  true-open : {w v : List Record} {t : State} {q q′ : Answer State (Unit {0})} → Continues profile (done w true t) q → Continues profile (done v true t) q′ → IsOpen q → IsOpen q′
+  true-open {w} {v} (Continues.go {p = p} g) (Continues.go {p = p′} g′) h = after-open v p′ (rw (only profile g g′) at (open-after w p h))
 
-  false-open : {w : List Record} {t : State} {q : Answer State (Unit {0})} → Continues table (done w false t) q → IsOpen q → ⊥
+  false-open : {w : List Record} {t : State} {q : Answer State (Unit {0})} → Continues profile (done w false t) q → IsOpen q → ⊥
   false-open Continues.stop h = h
 
   -- a statement as a content, and as a statement
   core : {P Q : Answer State (Unit {0})} → Deep P Q → (w w0 z : List Record) (v : Bool) (x : ℕ) {a c : Answer State Bool} → a ≡ closing w z v (after w0 (after [] (thence P (λ _. write LT))))
-      → c ≡ after w0 (after [] (thence (after (ST x ∷ []) Q) (λ _. return true))) → {q q′ : Answer State (Unit {0})} → Continues table a q → Continues table c q′ → IsOpen q → IsOpen q′
+      → c ≡ after w0 (after [] (thence (after (ST x ∷ []) Q) (λ _. return true))) → {q q′ : Answer State (Unit {0})} → Continues profile a q → Continues profile c q′ → IsOpen q → IsOpen q′
   unfolding closing thence after write return
   core (limit {f} {t}) w w0 z v x e i k k′ h = absurd (false≢true (refused-open (rw e at k) h))
   core (equal {p = refused r}) w w0 z v x e i k k′ h = open-refused (rw i at k′) (refused-open (rw e at k) h)
   core (equal {p = done g b t}) w w0 z true x e i k k′ h = true-open (rw e at k) (rw i at k′) h
   core (equal {p = done g b t}) w w0 z false x e i k k′ h = absurd (false-open (rw e at k) h)
 
-  content-at : (m : Reader State (Unit {0})) (x : Lexeme) (t : State) → isLineEnd (t .line .here .kind) ≡ false → content table m x t ≡ after [] (thence (line table m t) (λ _. write LT))
+  pub content-at : (m : Reader State (Unit {0})) (x : Lexeme) (t : State) → isLineEnd (t .line .here .kind) ≡ false → content profile m x t ≡ after [] (thence (line profile m t) (λ _. write LT))
   unfolding content _>>=_ _>>_ thence inLine over kind
   content-at m x t h = rw h
 
-  pub begun-at : (t : State) → isLineEnd (t .line .here .kind) ≡ false → begun table t ≡ after [] (thence (after (ST (t .line .here .from) ∷ []) (line table (times table 16) t)) (λ _. return true))
+  pub begun-at : (t : State) → isLineEnd (t .line .here .kind) ≡ false → begun profile t ≡ after [] (thence (after (ST (t .line .here .from) ∷ []) (line profile (times profile 16) t)) (λ _. return true))
   unfolding begun _>>=_ _>>_ thence inLine over ahead write
   begun-at t h = rw h
 
-  pub statement-is : (s : State) → statement table s ≡ thence (skipLines s) (λ _. begun table)
+  pub statement-is : (s : State) → statement profile s ≡ thence (skipLines s) (λ _. begun profile)
   unfolding statement _>>=_ _>>_
   statement-is s = refl
 
@@ -329,69 +329,69 @@ module _ (table : List ℕ) where
     unfolding coming arrive
     coming-bad n h = rw h
 
-    pending-refused : {a : Answer State Bool} (p : Pending table b bs a) (r : Refusal) → coming b bs ≡ refused r → a ≡ refused r
+    pending-refused : {a : Answer State Bool} (p : Pending profile b bs a) (r : Refusal) → coming b bs ≡ refused r → a ≡ refused r
     unfolding closing thence after
-    pending-refused p r h = p .form ∙ ap (λ (k : Answer State (Unit {0})). closing (p .w) (p .z) (p .a) (thence k (λ _. content table (times table (p .n)) (p .x)))) h
+    pending-refused p r h = p .form ∙ ap (λ (k : Answer State (Unit {0})). closing (p .w) (p .z) (p .a) (thence k (λ _. content profile (times profile (p .n)) (p .x)))) h
 
-    pending-done : {a : Answer State Bool} (p : Pending table b bs a) (w0 : List Record) (t : State) → coming b bs ≡ done w0 tt t → isLineEnd (t .line .here .kind) ≡ false
-        → a ≡ closing (p .w) (p .z) (p .a) (after w0 (after [] (thence (line table (times table (p .n)) t) (λ _. write LT))))
+    pending-done : {a : Answer State Bool} (p : Pending profile b bs a) (w0 : List Record) (t : State) → coming b bs ≡ done w0 tt t → isLineEnd (t .line .here .kind) ≡ false
+        → a ≡ closing (p .w) (p .z) (p .a) (after w0 (after [] (thence (line profile (times profile (p .n)) t) (λ _. write LT))))
     unfolding thence
-    pending-done p w0 t h i = p .form ∙ ap (λ (k : Answer State (Unit {0})). closing (p .w) (p .z) (p .a) (thence k (λ _. content table (times table (p .n)) (p .x)))) h
-        ∙ ap (λ (k : Answer State (Unit {0})). closing (p .w) (p .z) (p .a) (after w0 k)) (content-at (times table (p .n)) (p .x) t i)
+    pending-done p w0 t h i = p .form ∙ ap (λ (k : Answer State (Unit {0})). closing (p .w) (p .z) (p .a) (thence k (λ _. content profile (times profile (p .n)) (p .x)))) h
+        ∙ ap (λ (k : Answer State (Unit {0})). closing (p .w) (p .z) (p .a) (after w0 k)) (content-at (times profile (p .n)) (p .x) t i)
 
     statement-done : (w0 : List Record) (t : State) → skipLines (enter b bs) ≡ done w0 tt t → isLineEnd (t .line .here .kind) ≡ false
-        → statement table (enter b bs) ≡ after w0 (after [] (thence (after (ST (t .line .here .from) ∷ []) (line table (times table 16) t)) (λ _. return true)))
+        → statement profile (enter b bs) ≡ after w0 (after [] (thence (after (ST (t .line .here .from) ∷ []) (line profile (times profile 16) t)) (λ _. return true)))
     unfolding thence
-    statement-done w0 t h i = statement-is (enter b bs) ∙ ap (λ (k : Answer State (Unit {0})). thence k (λ _. begun table)) h ∙ ap (after w0) (begun-at t i)
+    statement-done w0 t h i = statement-is (enter b bs) ∙ ap (λ (k : Answer State (Unit {0})). thence k (λ _. begun profile)) h ∙ ap (after w0) (begun-at t i)
 
-    statement-refused : (r : Refusal) → skipLines (enter b bs) ≡ refused r → statement table (enter b bs) ≡ refused r
+    statement-refused : (r : Refusal) → skipLines (enter b bs) ≡ refused r → statement profile (enter b bs) ≡ refused r
     unfolding thence
-    statement-refused r h = statement-is (enter b bs) ∙ ap (λ (k : Answer State (Unit {0})). thence k (λ _. begun table)) h
+    statement-refused r h = statement-is (enter b bs) ∙ ap (λ (k : Answer State (Unit {0})). thence k (λ _. begun profile)) h
 
     skipped-blank : (w0 : List Record) (t : State) → skipLines (enter b bs) ≡ done w0 tt t → isLineEnd (t .line .here .kind) ≡ true → blankRows (b ∷ bs) ≡ true
     unfolding skipLines enter blankRows firstOf
     skipped-blank w0 t h i = skip-blank (firstOf b) bs h i
 
     -- a content from rows with a token lacks one of its own only where the rows do
-    late-at : refusedAs (b .first .kind) ≡ none → blankRows (b ∷ bs) ≡ false → {a : Answer State Bool} (p : Pending table b bs a) (k : Answer State (Unit {0})) → skipLines (enter b bs) ≡ k
-        → {q q′ : Answer State (Unit {0})} → Continues table a q → Reads table (enter b bs) q′ → IsOpen q → IsOpen q′
+    late-at : refusedAs (b .first .kind) ≡ none → blankRows (b ∷ bs) ≡ false → {a : Answer State Bool} (p : Pending profile b bs a) (k : Answer State (Unit {0})) → skipLines (enter b bs) ≡ k
+        → {q q′ : Answer State (Unit {0})} → Continues profile a q → Reads profile (enter b bs) q′ → IsOpen q → IsOpen q′
     late-at f n p (refused r) e c g h =
         let i : coming b bs ≡ refused r = coming-fine f ∙ e in
-        open-refused (rw (statement-refused r e) at (continues table g)) (refused-open (rw (pending-refused p r i) at c) h)
+        open-refused (rw (statement-refused r e) at (continues profile g)) (refused-open (rw (pending-refused p r i) at c) h)
     late-at f n p (done w0 u t) e {q} {q′} c g h = go (isLineEnd (t .line .here .kind)) refl
       where
         go : (o : Bool) → isLineEnd (t .line .here .kind) ≡ o → IsOpen q′
         go true i = absurd (true≢false (sym (skipped-blank w0 t e i) ∙ n))
-        go false i = core (line-deep table (times-deep table (p .n) 16 (p .few)) .law t) (p .w) w0 (p .z) (p .a) (t .line .here .from)
-            (pending-done p w0 t (coming-fine f ∙ e) i) (statement-done w0 t e i) c (continues table g) h
+        go false i = core (line-deep profile (times-deep profile (p .n) 16 (p .few)) .law t) (p .w) w0 (p .z) (p .a) (t .line .here .from)
+            (pending-done p w0 t (coming-fine f ∙ e) i) (statement-done w0 t e i) c (continues profile g) h
 
-    pub late-opens : blankRows (b ∷ bs) ≡ false → {a : Answer State Bool} (p : Pending table b bs a) {q q′ : Answer State (Unit {0})} → Continues table a q → Begins table (b ∷ bs) q′ → IsOpen q → IsOpen q′
+    pub late-opens : blankRows (b ∷ bs) ≡ false → {a : Answer State Bool} (p : Pending profile b bs a) {q q′ : Answer State (Unit {0})} → Continues profile a q → Begins profile (b ∷ bs) q′ → IsOpen q → IsOpen q′
     late-opens n p c (fine f g) h = late-at f n p (skipLines (enter b bs)) refl c g h
     late-opens n p c (broken {n = m} f) h = refused-open (rw (pending-refused p _ (coming-bad m f)) at c) h
 
   -- A run from a row is the only one.
-  pub begins-only : {l : List Row} {p q : Answer State (Unit {0})} → Begins table l p → Begins table l q → p ≡ q
-  begins-only (fine f g) (fine f′ g′) = only table g g′
+  pub begins-only : {l : List Row} {p q : Answer State (Unit {0})} → Begins profile l p → Begins profile l q → p ≡ q
+  begins-only (fine f g) (fine f′ g′) = only profile g g′
   begins-only (fine f g) (broken {n = n} h) = let y : none ≡ some n = sym f ∙ h in absurd (true≢false cc)
   begins-only (broken {n = n} h) (fine f g) = let y : none ≡ some n = sym f ∙ h in absurd (true≢false cc)
   begins-only (broken {n = n} h) (broken {n = m} i) = let y : n ≡ m = cc in rw y
 
   abbrev pub Gives : ℕ → List ℕ → Answer State (Unit {0}) → Type 0
-  Gives p s a = Begins table (rowsFrom p s) a
+  Gives p s a = Begins profile (rowsFrom p s) a
 
   -- THE READING'S COUNTER IS ENOUGH: with it, or more, the reading is the run from its first row.
-  pub gives-with : (p : ℕ) (s : List ℕ) (n : ℕ) → length s ≤ n → Gives p s (readRows table (suc n) (rowsFrom p s))
+  pub gives-with : (p : ℕ) (s : List ℕ) (n : ℕ) → length s ≤ n → Gives p s (readRows profile (suc n) (rowsFrom p s))
   unfolding readRows arrive
   gives-with p s n f =
       let (r, rs, e) = some-row p s in
       rw e (go r rs (refusedAs (r .first .kind)) refl (start-below n r rs (rw e at (all p s)) (omega (arith, ap total (sym e), count p s))))
     where
       go : (r : Row) (rs : List Row) (o : Option ℕ) → refusedAs (r .first .kind) ≡ o → Below n (enter r rs)
-          → Begins table (r ∷ rs) (maybe o (statements table (suc n) (enter r rs)) (λ k. refused (at k (r .first .from) (r .first .to))))
-      go r rs none h b = fine h (enough table n (enter r rs) b)
+          → Begins profile (r ∷ rs) (maybe o (statements profile (suc n) (enter r rs)) (λ k. refused (at k (r .first .from) (r .first .to))))
+      go r rs none h b = fine h (enough profile n (enter r rs) b)
       go r rs (some k) h b = broken h
 
-  pub gives : (p : ℕ) (s : List ℕ) → Gives p s (readRows table (suc (length s)) (rowsFrom p s))
+  pub gives : (p : ℕ) (s : List ℕ) → Gives p s (readRows profile (suc (length s)) (rowsFrom p s))
   gives p s = gives-with p s (length s) (omega arith)
 
   -- What B's reading, from place n on, has to do with that of A ++ B, where A's gives the first answer and that of A ++ B the second.
@@ -401,13 +401,13 @@ module _ (table : List ℕ) where
     lacks : {r : Refusal} {q : Answer State (Unit {0})} → Lack r → (blankRows (rowsFrom n B) ≡ false → (q′ : Answer State (Unit {0})) → Gives n B q′ → IsOpen q → IsOpen q′) → Then n B (refused r) q
 
   to-then : (n m : ℕ) (B : List ℕ) (b : Row) (bs : List Row) → rowsFrom n B ≡ b ∷ bs → {a q : Answer State (Unit {0})}
-      → Follows table (endRow m ∷ []) (empty (endRow m) (end-end m)) b bs a q → Then n B a q
+      → Follows profile (endRow m ∷ []) (empty (endRow m) (end-end m)) b bs a q → Then n B a q
   to-then n m B b bs e (Follows.on {q = q} g) = goes {q = q} (rw e g)
   to-then n m B b bs e (Follows.same g) = stands g
   to-then n m B b bs e (Follows.late w {q} p c) = lacks refl (λ h q′ g o. late-opens b bs (rw e at h) p c (rw e at g) (open-after w q o))
 
-  end-gives : (p : ℕ) {a : Answer State (Unit {0})} → Begins table (endRow p ∷ []) a → a ≡ done [] tt (enter (endRow p) [])
-  end-gives p g = begins-only g (fine (end-fine (endRow p .first .kind) (end-end p)) (Reads.stop (statement-ends table (enter (endRow p) []) (enter-ends (endRow p) (end-end p)))))
+  end-gives : (p : ℕ) {a : Answer State (Unit {0})} → Begins profile (endRow p ∷ []) a → a ≡ done [] tt (enter (endRow p) [])
+  end-gives p g = begins-only g (fine (end-fine (endRow p .first .kind) (end-end p)) (Reads.stop (statement-ends profile (enter (endRow p) []) (enter-ends (endRow p) (end-end p)))))
 
   pub nothing-gives : (p : ℕ) {a : Answer State (Unit {0})} → Gives p [] a → a ≡ done [] tt (enter (endRow p) [])
   nothing-gives p g = end-gives p (rw (end-rows p) at g)
@@ -423,21 +423,21 @@ module _ (table : List ℕ) where
       let (b, bs, f) = some-row n B in
       let i : rowsFrom p (c ∷ cs) ≡ r ∷ (rs ++ (endRow n ∷ [])) = rows-alone p c cs l ∙ ap (λ (k : List Row). k ++ (endRow n ∷ [])) e in
       let j : rowsFrom p ((c ∷ cs) ++ B) ≡ r ∷ (rs ++ (b ∷ bs)) = rows-before p c cs l B ∙ ap₂ (λ (k k′ : List Row). k ++ k′) e f in
-      to-then n n B b bs f (follows table (endRow n ∷ []) (empty (endRow n) (end-end n)) b bs rs (rw i at g) (rw j at h))
+      to-then n n B b bs f (follows profile (endRow n ∷ []) (empty (endRow n) (end-end n)) b bs rs (rw i at g) (rw j at h))
 
   module _ (f : ℕ → ℕ) where
-    statement-moved : (s : State) → statement table (moveState f s) ≡ moved f (statement table s)
+    statement-moved : (s : State) → statement profile (moveState f s) ≡ moved f (statement profile s)
     unfolding moved
-    statement-moved s = statement-shifts f (λ _. Unit {0}) unit-state unit-row table .law s
+    statement-moved s = statement-shifts f (λ _. Unit {0}) unit-state unit-row profile .law s
 
-    reads-shift : {s : State} {p : Answer State (Unit {0})} → Reads table s p → Reads table (moveState f s) (moved f p)
+    reads-shift : {s : State} {p : Answer State (Unit {0})} → Reads profile s p → Reads profile (moveState f s) (moved f p)
     unfolding carry moved
     reads-shift (Reads.stop {s} z) = Reads.stop (statement-moved s ∙ ap (moved f) z)
     reads-shift (Reads.fail {s} z) = Reads.fail (statement-moved s ∙ ap (moved f) z)
     reads-shift (Reads.go {s} {w = w} {p} z r) = rw (← after-carry (moveState f) (moveRecord f) (moveRefusal f) same w p)
         (Reads.go (statement-moved s ∙ ap (moved f) z) (reads-shift r))
 
-    begins-shift : {l : List Row} {p : Answer State (Unit {0})} → Begins table l p → Begins table (map (moveRow f) l) (moved f p)
+    begins-shift : {l : List Row} {p : Answer State (Unit {0})} → Begins profile l p → Begins profile (map (moveRow f) l) (moved f p)
     unfolding enter firstOf moveState moveRow moveLine moveToken moved carry moveRefusal
     begins-shift (fine {r} {rs} h g) = fine {r = moveRow f r} h (reads-shift g)
     begins-shift (broken {r} h) = broken {r = moveRow f r} h
@@ -445,7 +445,7 @@ module _ (table : List ℕ) where
   pub gives-shift : (q : ℕ) (s : List ℕ) {a : Answer State (Unit {0})} → Gives 0 s a → Gives q s (moved (λ n. q + n) a)
   gives-shift q s g = rw (rows-shift q s) (begins-shift (λ n. q + n) g)
 
-  bare-open : {a q : Answer State (Unit {0})} → Follows table [] bare (endRow 0) [] a q → IsOpen q → IsOpen a
+  bare-open : {a q : Answer State (Unit {0})} → Follows profile [] bare (endRow 0) [] a q → IsOpen q → IsOpen a
   bare-open (Follows.on {w} {q = q} g) h = rw (end-gives 0 g) at (open-after w q h)
   bare-open (Follows.same {r} m) h = absurd (not-both r m h)
   bare-open (Follows.late w p c) h = refl
@@ -457,10 +457,10 @@ module _ (table : List ℕ) where
       let i : zeros (rowsFrom p s) ≡ moveRow z r ∷ zeros rs = ap zeros e in
       let j : zeros (rowsFrom p s) ≡ moveRow z r ∷ (zeros rs ++ []) = i ∙ ap (λ (k : List Row). moveRow z r ∷ k) (sym (append-nil (zeros rs))) in
       let k : zeros (rowsFrom p (s ++ lineFeed)) ≡ moveRow z r ∷ (zeros rs ++ (endRow 0 ∷ [])) = rows-end p s ∙ ap (λ (l : List Row). l ++ (endRow 0 ∷ [])) i in
-      moved-open z q′ (bare-open (follows table [] bare (endRow 0) [] (zeros rs) (rw j at (begins-shift z g′)) (rw k at (begins-shift z g))) (open-moved z q h))
+      moved-open z q′ (bare-open (follows profile [] bare (endRow 0) [] (zeros rs) (rw j at (begins-shift z g′)) (rw k at (begins-shift z g))) (open-moved z q h))
 
   -- What is refused is 34 only where a content is missing.
-  bare-refused : {r : Refusal} {a q : Answer State (Unit {0})} → Follows table [] bare (endRow 0) [] a q → a ≡ refused r → Mild r ⊎ Lack r
+  bare-refused : {r : Refusal} {a q : Answer State (Unit {0})} → Follows profile [] bare (endRow 0) [] a q → a ≡ refused r → Mild r ⊎ Lack r
   bare-refused (Follows.on g) e = absurd (true≢false cc)
   bare-refused {r} (Follows.same {r = r′} m) e = let y : r′ ≡ r = cc in inl (rw y at m)
   bare-refused {r} (Follows.late {f} {t} w p c) e = let y : at 34 f t ≡ r = cc in rw (← y) (inr refl)
@@ -479,28 +479,28 @@ module _ (table : List ℕ) where
       let i : zeros (rowsFrom p s) ≡ moveRow z k ∷ zeros rs = ap zeros e in
       let j : zeros (rowsFrom p s) ≡ moveRow z k ∷ (zeros rs ++ []) = i ∙ ap (λ (l : List Row). moveRow z k ∷ l) (sym (append-nil (zeros rs))) in
       let l : zeros (rowsFrom p (s ++ lineFeed)) ≡ moveRow z k ∷ (zeros rs ++ (endRow 0 ∷ [])) = rows-end p s ∙ ap (λ (m : List Row). m ++ (endRow 0 ∷ [])) i in
-      mild-moved z r (bare-refused (follows table [] bare (endRow 0) [] (zeros rs) (rw j at (begins-shift z g)) (rw l at (begins-shift z (gives p (s ++ lineFeed))))) refl)
+      mild-moved z r (bare-refused (follows profile [] bare (endRow 0) [] (zeros rs) (rw j at (begins-shift z g)) (rw l at (begins-shift z (gives p (s ++ lineFeed))))) refl)
 
-  pub blank-gives : (l : List Row) → Some l → blankRows l ≡ true → {a : Answer State (Unit {0})} → Begins table l a → (u : State) × (a ≡ done [] tt u)
+  pub blank-gives : (l : List Row) → Some l → blankRows l ≡ true → {a : Answer State (Unit {0})} → Begins profile l a → (u : State) × (a ≡ done [] tt u)
   unfolding blankRows enter firstOf skipLines thence after
   blank-gives l (r, rs, e) h {a} g =
       let i : isLineEnd (r .first .kind) && blankRows rs ≡ true = rw e at h in
       let (k, _) = and-split (isLineEnd (r .first .kind)) (blankRows rs) i in
       let (u, j, n) = skip-over (firstOf r) rs i in
-      let m : statement table (enter r rs) ≡ done [] false u = statement-is (enter r rs) ∙ ap (λ (p : Answer State (Unit {0})). thence p (λ _. begun table)) j ∙ ap (after []) (begun-ends table u n) in
+      let m : statement profile (enter r rs) ≡ done [] false u = statement-is (enter r rs) ∙ ap (λ (p : Answer State (Unit {0})). thence p (λ _. begun profile)) j ∙ ap (after []) (begun-ends profile u n) in
       (u, begins-only (rw e at g) (fine (end-fine (r .first .kind) k) (Reads.stop m)))
 
   -- readFrom is the run's outcome
-  pub from-run : (p : ℕ) (s : List ℕ) {a : Answer State (Unit {0})} → Gives p s a → readFrom table p s ≡ outcome a
+  pub from-run : (p : ℕ) (s : List ℕ) {a : Answer State (Unit {0})} → Gives p s a → readFrom profile p s ≡ outcome a
   unfolding readFrom rowsFrom
   from-run p s g = ap outcome (begins-only (gives p s) g)
 
-  pub accepts-run : (p : ℕ) (s : List ℕ) (w : List Record) → readFrom table p s ≡ accepted w → (u : State) × Gives p s (done w tt u)
+  pub accepts-run : (p : ℕ) (s : List ℕ) (w : List Record) → readFrom profile p s ≡ accepted w → (u : State) × Gives p s (done w tt u)
   unfolding readFrom rowsFrom
   accepts-run p s w e =
-      let (u, i) = run-accepted (readRows table (suc (length s)) (rows (tokensFrom p 0 s))) w e in
+      let (u, i) = run-accepted (readRows profile (suc (length s)) (rows (tokensFrom p 0 s))) w e in
       (u, rw i at (gives p s))
 
-  pub refuses-run : (p : ℕ) (s : List ℕ) (r : Refusal) → readFrom table p s ≡ refusal r → Gives p s (refused r)
+  pub refuses-run : (p : ℕ) (s : List ℕ) (r : Refusal) → readFrom profile p s ≡ refusal r → Gives p s (refused r)
   unfolding readFrom rowsFrom
-  refuses-run p s r e = rw (run-refused (readRows table (suc (length s)) (rows (tokensFrom p 0 s))) r e) at (gives p s)
+  refuses-run p s r e = rw (run-refused (readRows profile (suc (length s)) (rows (tokensFrom p 0 s))) r e) at (gives p s)

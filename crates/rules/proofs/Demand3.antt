@@ -13,7 +13,7 @@ use Rattle.lexer.specs.Text.{if_then_else_, maybe, is, among, run}
 use Rattle.lexer.specs.Tokens.{inComment}
 use Rattle.rules.specs.Records.{Record, listing}
 use Rattle.rules.specs.Reader.{Refusal, at, nowhere, done}
-use Rattle.rules.specs.Statements.{State, Outcome, accepted, refusal, outcome, readFrom, reading}
+use Rattle.rules.specs.Statements.{Profile, State, Outcome, accepted, refusal, outcome, readFrom, reading}
 use Rattle.lexer.proofs.Branches.{and-split}
 use Rattle.lexer.proofs.TokensLine.{Lines}
 use Rattle.rules.specs.Calls.{Result, gives, refuses, unless, mostBytes, tooLong, foreign, ascii, lent, inRoom, listed, fullRead}
@@ -128,7 +128,7 @@ unfolding whole linesFrom
 whole-lines [] l = refl
 whole-lines (c ∷ cs) l = whole-from [] c cs l
 
-or-split : (b c : Bool) → b || c ≡ false → (b ≡ false) × (c ≡ false)
+pub or-split : (b c : Bool) → b || c ≡ false → (b ≡ false) × (c ≡ false)
 or-split true c h = absurd (true≢false h)
 or-split false c h = (refl, h)
 
@@ -157,57 +157,57 @@ reread-is s w a new roomS roomL h (accepted v) = rw (le-ltb roomS (length (edite
     (sym (edits-unless (edited s a new) (ltb roomL (length (listing (exchanged a (length (lineAt s a)) (length new) w v)))) (nowhere 4) (gives (exchanged a (length (lineAt s a)) (length new) w v))))
 reread-is s w a new roomS roomL h (refusal r) = refl
 
-module _ (table : List ℕ) (proper : Proper table) where
+module _ (profile : Profile) (proper : Proper (profile .table)) where
   -- A's reading lacks no content where the nearest line does not
-  closed-above : (A : List ℕ) → Readable A → Lines A → maybe (nearest (linesFrom [] A)) false (leavesOpen table) ≡ false → Closed table 0 A
+  closed-above : (A : List ℕ) → Readable A → Lines A → maybe (nearest (linesFrom [] A)) false (leavesOpen profile) ≡ false → Closed profile 0 A
   unfolding Closed
   closed-above A r l h a g o =
-      let m : Near table (linesFrom [] A) = near-open table 0 (linesFrom [] A) (gives-same table 0 (sym (whole-lines A l)) g) o in
-      let i : leavesOpen table (m .M) ≡ false = rw (m .found) at h in
-      not-open table (m .M) (nearest-readable A (m .M) r (m .found)) i _ (given table 0 (m .M)) (m .opens _ (given table 0 (m .M)))
+      let m : Near profile (linesFrom [] A) = near-open profile 0 (linesFrom [] A) (gives-same profile 0 (sym (whole-lines A l)) g) o in
+      let i : leavesOpen profile (m .M) ≡ false = rw (m .found) at h in
+      not-open profile (m .M) (nearest-readable A (m .M) r (m .found)) i _ (given profile 0 (m .M)) (m .opens _ (given profile 0 (m .M)))
 
   module _ where
-    dropped-inner : (n : ℕ) (L B : List ℕ) → Behind B → (w : List Record) (u : State) → Small L → Gives table n (L ++ take 1 B) (done w tt u) → Inner (n + length L) w
+    dropped-inner : (n : ℕ) (L B : List ℕ) → Behind B → (w : List Record) (u : State) → Small L → Gives profile n (L ++ take 1 B) (done w tt u) → Inner (n + length L) w
     unfolding lineFeed
-    dropped-inner n L B nothing w u m g = gives-fits table proper n L w u m (gives-same table n (append-nil L) g) .inner
-    dropped-inner n L B (feed C) w u m g = gives-feed table proper n L w u m g .inner
+    dropped-inner n L B nothing w u m g = gives-fits profile proper n L w u m (gives-same profile n (append-nil L) g) .inner
+    dropped-inner n L B (feed C) w u m g = gives-feed profile proper n L w u m g .inner
 
-    module _ (A L N B : List ℕ) (b : Behind B) (w : List Record) (smA : Small A) (smL : Small L) (smB : Small B) (E : Exchange table 0 A L N B w) where
+    module _ (A L N B : List ℕ) (b : Behind B) (w : List Record) (smA : Small A) (smL : Small L) (smB : Small B) (E : Exchange profile 0 A L N B w) where
       after-line : Headed (0 + length A + length L) (E .rest)
       after-line = headed-mono (0 + length A + length L) (0 + length A + length (L ++ take 1 B)) (omega (arith, length-append L (take 1 B))) (E .rest)
-          (gives-fits table proper _ _ (E .rest) (E .u₂) (small-parts 1 B smB .1) (E .rests) .headed)
+          (gives-fits profile proper _ _ (E .rest) (E .u₂) (small-parts 1 B smB .1) (E .rests) .headed)
 
       kept-is : recordsBelow (0 + length A) w ≡ E .kept
-      kept-is = ap (recordsBelow (0 + length A)) (E .joined) ∙ below-kept (0 + length A) (E .kept) (E .dropped ++ E .rest) (gives-fits table proper 0 A (E .kept) (E .u₀) smA (E .keeps) .inner)
-          (headed-append (0 + length A) (E .dropped) (E .rest) (gives-fits table proper _ _ (E .dropped) (E .u₁) (small-append L (take 1 B) smL (small-parts 1 B smB .0)) (E .drops) .headed)
+      kept-is = ap (recordsBelow (0 + length A)) (E .joined) ∙ below-kept (0 + length A) (E .kept) (E .dropped ++ E .rest) (gives-fits profile proper 0 A (E .kept) (E .u₀) smA (E .keeps) .inner)
+          (headed-append (0 + length A) (E .dropped) (E .rest) (gives-fits profile proper _ _ (E .dropped) (E .u₁) (small-append L (take 1 B) smL (small-parts 1 B smB .0)) (E .drops) .headed)
           (headed-mono (0 + length A) (0 + length A + length L) (omega arith) (E .rest) after-line))
 
       rest-is : recordsOn (0 + length A + length L) w ≡ E .rest
       rest-is = ap (recordsOn (0 + length A + length L)) (E .joined ∙ sym (append-assoc (E .kept) (E .dropped) (E .rest)))
           ∙ on-rest (0 + length A + length L) (E .kept ++ E .dropped) (E .rest)
           (inner-append (0 + length A + length L) (E .kept) (E .dropped)
-          (inner-mono (0 + length A) (0 + length A + length L) (omega arith) (E .kept) (gives-fits table proper 0 A (E .kept) (E .u₀) smA (E .keeps) .inner))
+          (inner-mono (0 + length A) (0 + length A + length L) (omega arith) (E .kept) (gives-fits profile proper 0 A (E .kept) (E .u₀) smA (E .keeps) .inner))
           (dropped-inner (0 + length A) L B b (E .dropped) (E .u₁) smL (E .drops))) after-line
 
-      alike : (o : Outcome) → readFrom table (0 + length A) (N ++ take 1 B) ≡ o → readFrom table 0 (A ++ (N ++ B)) ≡ exchangedBy (0 + length A) (length L) (length N) w o
+      alike : (o : Outcome) → readFrom profile (0 + length A) (N ++ take 1 B) ≡ o → readFrom profile 0 (A ++ (N ++ B)) ≡ exchangedBy (0 + length A) (length L) (length N) w o
       unfolding exchangedBy exchanged outcome
       alike (accepted wN) h =
-          let (u, g) = accepts-run table (0 + length A) (N ++ take 1 B) wN h in
-          let (u′, e) = E .accepts wN u _ g (given table 0 (A ++ (N ++ B))) in
-          rw (kept-is, rest-is) (from-run table 0 (A ++ (N ++ B)) (given table 0 (A ++ (N ++ B))) ∙ ap outcome e)
+          let (u, g) = accepts-run profile (0 + length A) (N ++ take 1 B) wN h in
+          let (u′, e) = E .accepts wN u _ g (given profile 0 (A ++ (N ++ B))) in
+          rw (kept-is, rest-is) (from-run profile 0 (A ++ (N ++ B)) (given profile 0 (A ++ (N ++ B))) ∙ ap outcome e)
       alike (refusal r) h =
-          from-run table 0 (A ++ (N ++ B)) (given table 0 (A ++ (N ++ B))) ∙ ap outcome (E .refuses r _ (refuses-run table (0 + length A) (N ++ take 1 B) r h) (given table 0 (A ++ (N ++ B))))
+          from-run profile 0 (A ++ (N ++ B)) (given profile 0 (A ++ (N ++ B))) ∙ ap outcome (E .refuses r _ (refuses-run profile (0 + length A) (N ++ take 1 B) r h) (given profile 0 (A ++ (N ++ B))))
 
     -- The reading of the edited source, from that of the new line.
-    joined-alike : (A L N B : List ℕ) → Lines A → Behind B → Closed table 0 A → Closed table 0 L → Closed table 0 N → (w : List Record) (u : State) → Small (A ++ (L ++ B)) → Gives table 0 (A ++ (L ++ B)) (done w tt u)
-        → (a : ℕ) → a ≡ 0 + length A → readFrom table 0 (A ++ (N ++ B)) ≡ exchangedBy a (length L) (length N) w (readFrom table a (N ++ take 1 B))
+    joined-alike : (A L N B : List ℕ) → Lines A → Behind B → Closed profile 0 A → Closed profile 0 L → Closed profile 0 N → (w : List Record) (u : State) → Small (A ++ (L ++ B)) → Gives profile 0 (A ++ (L ++ B)) (done w tt u)
+        → (a : ℕ) → a ≡ 0 + length A → readFrom profile 0 (A ++ (N ++ B)) ≡ exchangedBy a (length L) (length N) w (readFrom profile a (N ++ take 1 B))
     joined-alike A L N B l b cA cL cN w u m g a e =
         let (mA, q) = small-split A (L ++ B) m in
         let (mL, mB) = small-split L B q in
-        rw e (alike A L N B b w mA mL mB (exchange table 0 A L N l cA cL cN b g) (readFrom table (0 + length A) (N ++ take 1 B)) refl)
+        rw e (alike A L N B b w mA mL mB (exchange profile 0 A L N l cA cL cN b g) (readFrom profile (0 + length A) (N ++ take 1 B)) refl)
 
-    reads-alike : (old : List ℕ) (a : ℕ) (new : List ℕ) (w : List Record) → beginsLine old a ≡ true → openLine table old a new ≡ false → Readable old → Readable (edited old a new) → reading table old ≡ accepted w
-        → reading table (edited old a new) ≡ exchangedBy a (length (lineAt old a)) (length new) w (readFrom table a (new ++ take 1 (behind old a)))
+    reads-alike : (old : List ℕ) (a : ℕ) (new : List ℕ) (w : List Record) → beginsLine old a ≡ true → openLine profile old a new ≡ false → Readable old → Readable (edited old a new) → reading profile old ≡ accepted w
+        → reading profile (edited old a new) ≡ exchangedBy a (length (lineAt old a)) (length new) w (readFrom profile a (new ++ take 1 (behind old a)))
     unfolding reading openLine edited above behind
     reads-alike old a new w h o p q e =
         let at′ : Line-at old a = line-at old a h in
@@ -215,27 +215,27 @@ module _ (table : List ℕ) (proper : Proper table) where
         let (pL, pC) = readable-split (lineAt old a) (behind old a) pB in
         let (qA, qB) = readable-split (take a old) (new ++ behind old a) q in
         let (qN, qC) = readable-split new (behind old a) qB in
-        let (i, j) = or-split (leavesOpen table (lineAt old a)) (leavesOpen table new || maybe (nearest (linesFrom [] (take a old))) false (leavesOpen table)) o in
-        let (k, m) = or-split (leavesOpen table new) (maybe (nearest (linesFrom [] (take a old))) false (leavesOpen table)) j in
-        let (u, g) = accepts-run table 0 old w e in
-        joined-alike (take a old) (lineAt old a) new (behind old a) (at′ .lines) (run-behind (drop a old)) (closed-above (take a old) pA (at′ .lines) m) (closed table (lineAt old a) pL i) (closed table new qN k)
-        w u (small-same (split-line old a) (ascii-small old (p .plain))) (gives-same table 0 (split-line old a) g) a (omega (arith, length-take-le a old (at′ .fits)))
+        let (i, j) = or-split (leavesOpen profile (lineAt old a)) (leavesOpen profile new || maybe (nearest (linesFrom [] (take a old))) false (leavesOpen profile)) o in
+        let (k, m) = or-split (leavesOpen profile new) (maybe (nearest (linesFrom [] (take a old))) false (leavesOpen profile)) j in
+        let (u, g) = accepts-run profile 0 old w e in
+        joined-alike (take a old) (lineAt old a) new (behind old a) (at′ .lines) (run-behind (drop a old)) (closed-above (take a old) pA (at′ .lines) m) (closed profile (lineAt old a) pL i) (closed profile new qN k)
+        w u (small-same (split-line old a) (ascii-small old (p .plain))) (gives-same profile 0 (split-line old a) g) a (omega (arith, length-take-le a old (at′ .fits)))
 
-  patched-is : (old : List ℕ) (w : List Record) (a : ℕ) (new : List ℕ) (roomS roomL : ℕ) → beginsLine old a ≡ true → openLine table old a new ≡ false → Readable old → Readable (edited old a new) → reading table old ≡ accepted w
-      → length (edited old a new) ≤ roomS → patched table old (some w) a new roomS roomL ≡ edits (edited old a new) (listed roomL (reading table (edited old a new)))
+  patched-is : (old : List ℕ) (w : List Record) (a : ℕ) (new : List ℕ) (roomS roomL : ℕ) → beginsLine old a ≡ true → openLine profile old a new ≡ false → Readable old → Readable (edited old a new) → reading profile old ≡ accepted w
+      → length (edited old a new) ≤ roomS → patched profile old (some w) a new roomS roomL ≡ edits (edited old a new) (listed roomL (reading profile (edited old a new)))
   unfolding patched unless
-  patched-is old w a new roomS roomL h o p q e r = rw (listing-formed table proper old w (ascii-small old (p .plain)) e, o, reads-alike old a new w h o p q e)
-      (reread-is old w a new roomS roomL r (readFrom table a (new ++ take 1 (behind old a))))
+  patched-is old w a new roomS roomL h o p q e r = rw (listing-formed profile proper old w (ascii-small old (p .plain)) e, o, reads-alike old a new w h o p q e)
+      (reread-is old w a new roomS roomL r (readFrom profile a (new ++ take 1 (behind old a))))
 
   -- DEMAND 3: for an accepted source with its listing, and a line that leaves no `times` open, the patch answers what the full read of the
   -- edited source answers, lent the same listing buffer. Where the edited source may not be read (1, 2), both say so before they look at a line.
   pub demand-3 : (old : List ℕ) (w : List Record) (a : ℕ) (new : List ℕ) (room roomS roomL : ℕ)
-      → fullRead table old room ≡ gives w → beginsLine old a ≡ true → among 10 new ≡ false → openLine table old a new ≡ false → length (edited old a new) ≤ roomS
-      → patch table old (listing w) a new roomS roomL ≡ edits (edited old a new) (fullRead table (edited old a new) roomL)
+      → fullRead profile old room ≡ gives w → beginsLine old a ≡ true → among 10 new ≡ false → openLine profile old a new ≡ false → length (edited old a new) ≤ roomS
+      → patch profile old (listing w) a new roomS roomL ≡ edits (edited old a new) (fullRead profile (edited old a new) roomL)
   unfolding patch fullRead lent ascii unless tooLong mostBytes
   demand-3 old w a new room roomS roomL acc h f o r =
-      let A : Accepted table old w = accepted-call table old room w acc in
-      let d : decode (listing w) ≡ some w = listing-decodes table proper old w (A .small) (A .short) (A .reads) in
+      let A : Accepted profile old w = accepted-call profile old room w acc in
+      let d : decode (listing w) ≡ some w = listing-decodes profile proper old w (A .small) (A .short) (A .reads) in
       let i : ltb 65536 (length old) ≡ false = le-ltb 65536 (length old) (A .short) in
       let ed : List ℕ = edited old a new in
       rw (h, f, i, d) (readable-only ed (ltb 65536 (length ed)) refl (foreign 0 ed) refl _ _ (λ q. patched-is old w a new roomS roomL h o (A .readable) q (A .reads) r))

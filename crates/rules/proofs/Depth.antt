@@ -10,7 +10,7 @@ use Rattle.rules.specs.Lexemes.{Lexeme, nameIn, operationIn}
 use Rattle.names.specs.Names.{directives}
 use Rattle.rules.specs.Records.{Record}
 use Rattle.rules.specs.Reader.{at, Answer, done, refused, Reader, after, thence, _>>=_, _>>_, refuseHere, isLineEnd}
-use Rattle.rules.specs.Statements.{State, over, inLine, passing, line, content, times}
+use Rattle.rules.specs.Statements.{Profile, State, over, inLine, passing, line, content, times}
 
 pub data Deep {A : Type 0} : Answer State A → Answer State A → Type 0 where
   equal : {p : Answer State A} → Deep p p
@@ -57,17 +57,17 @@ perhaps : {A B : Type 0} {m m′ : Reader State A} {k k′ : B → Reader State 
 perhaps none p q = p
 perhaps (some b) p q = q b
 
-module _ (table : List ℕ) where
-  pub line-deep : {m m′ : Reader State (Unit {0})} → Deeper m m′ → Deeper (line table m) (line table m′)
+module _ (profile : Profile) where
+  pub line-deep : {m m′ : Reader State (Unit {0})} → Deeper m m′ → Deeper (line profile m) (line profile m′)
   unfolding line
-  line-deep p = bind _ λ x. perhaps (operationIn table (x .kind)) (perhaps (nameIn directives (x .kind)) same
+  line-deep p = bind _ λ x. perhaps (operationIn (profile .table) (x .kind)) (perhaps (nameIn directives (x .kind)) same
       λ n. whether (eqb n 0) same (whether (ltb n 3) same p)) λ op. same
 
-  content-deep : {m m′ : Reader State (Unit {0})} (x : Lexeme) → Deeper m m′ → Deeper (content table m x) (content table m′ x)
+  content-deep : {m m′ : Reader State (Unit {0})} (x : Lexeme) → Deeper m m′ → Deeper (content profile m x) (content profile m′ x)
   unfolding content
   content-deep x p = bind _ λ k. first _ (whether (isLineEnd k) same (line-deep p))
 
-  pub times-deep : (n m : ℕ) → n ≤ m → Deeper (times table n) (times table m)
+  pub times-deep : (n m : ℕ) → n ≤ m → Deeper (times profile n) (times profile m)
   unfolding times passing inLine over refuseHere
   times-deep zero m h = record { law = λ s. limit }
   times-deep (suc n) zero h = absurd (omega arith)

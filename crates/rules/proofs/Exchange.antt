@@ -10,7 +10,7 @@ use Rattle.lexer.specs.Text.{if_then_else_}
 use Rattle.rules.specs.Lexemes.{Lexeme, tokensFrom}
 use Rattle.rules.specs.Records.{Record, ST, VC, VL, VI, VS, PF, IN, OR, OS, OI, OF, OD, OX, LL, LI, LD, LC, LT, moveRecord}
 use Rattle.rules.specs.Reader.{Refusal, at, Answer, done, refused, after, isLineEnd}
-use Rattle.rules.specs.Statements.{Row, State, enter, rows, push, readRows}
+use Rattle.rules.specs.Statements.{Profile, Row, State, enter, rows, push, readRows}
 use Rattle.rules.proofs.Move.{carry, moveRefusal}
 use Rattle.rules.proofs.MoveState.{moveState}
 use Rattle.lexer.proofs.Branches.{and-split}
@@ -58,27 +58,27 @@ pub data Behind : List ℕ → Type 0 where
   nothing : Behind []
   feed : (B : List ℕ) → Behind (10 ∷ B)
 
-module _ (table : List ℕ) where
+module _ (profile : Profile) where
   -- An open place in A's reading: the nearest line with tokens is open by itself.
   pub record Near (ls : List (List ℕ)) : Type 0 where
     pub M : List ℕ
     pub found : nearest ls ≡ some M
-    pub opens : (b : Answer State (Unit {0})) → Gives table 0 M b → IsOpen b
+    pub opens : (b : Answer State (Unit {0})) → Gives profile 0 M b → IsOpen b
 
-  open-zero : (p : ℕ) (s : List ℕ) → ((b : Answer State (Unit {0})) → Gives table p s b → IsOpen b) → (b : Answer State (Unit {0})) → Gives table 0 s b → IsOpen b
-  open-zero p s h b g = moved-open (λ n. p + n) b (h (moved (λ n. p + n) b) (gives-shift table p s g))
+  open-zero : (p : ℕ) (s : List ℕ) → ((b : Answer State (Unit {0})) → Gives profile p s b → IsOpen b) → (b : Answer State (Unit {0})) → Gives profile 0 s b → IsOpen b
+  open-zero p s h b g = moved-open (λ n. p + n) b (h (moved (λ n. p + n) b) (gives-shift profile p s g))
 
-  not-bare : (p : ℕ) (l : List ℕ) {r : Refusal} → Gives table p (l ++ lineFeed) (refused r) → bareLine l ≡ false
+  not-bare : (p : ℕ) (l : List ℕ) {r : Refusal} → Gives profile p (l ++ lineFeed) (refused r) → bareLine l ≡ false
   not-bare p l {r} g = go (bareLine l) refl
     where
       go : (b : Bool) → bareLine l ≡ b → b ≡ false
       go false h = refl
       go true h =
-          let (u, e) = blank-gives table (rowsFrom p (l ++ lineFeed)) (some-row p (l ++ lineFeed)) (blank-end p l ∙ bare-blank l ∙ h) g in
+          let (u, e) = blank-gives profile (rowsFrom p (l ++ lineFeed)) (some-row p (l ++ lineFeed)) (blank-end p l ∙ bare-blank l ∙ h) g in
           absurd (true≢false cc)
 
-  near-step : (p : ℕ) (l : List ℕ) (ls : List (List ℕ)) {x q : Answer State (Unit {0})} → Then table (p + length (l ++ lineFeed)) (whole ls) x q → Gives table p (l ++ lineFeed) x → IsOpen q
-      → ((a : Answer State (Unit {0})) → Gives table (p + length (l ++ lineFeed)) (whole ls) a → IsOpen a → Near ls) → Near (l ∷ ls)
+  near-step : (p : ℕ) (l : List ℕ) (ls : List (List ℕ)) {x q : Answer State (Unit {0})} → Then profile (p + length (l ++ lineFeed)) (whole ls) x q → Gives profile p (l ++ lineFeed) x → IsOpen q
+      → ((a : Answer State (Unit {0})) → Gives profile (p + length (l ++ lineFeed)) (whole ls) a → IsOpen a → Near ls) → Near (l ∷ ls)
   unfolding nearest
   near-step p l ls (goes {w} {q = q} g) k h again =
       let m : Near ls = again q g (open-after w q h) in
@@ -90,15 +90,15 @@ module _ (table : List ℕ) where
       n = p + length (l ++ lineFeed)
 
       go : (b : Bool) → blankRows (rowsFrom n (whole ls)) ≡ b → Near (l ∷ ls)
-      go true e = record { M = l; found = rw (blank-nearest n ls e, not-bare p l k); opens = open-zero p l (λ b g. alone-open table p l k g o) }
+      go true e = record { M = l; found = rw (blank-nearest n ls e, not-bare p l k); opens = open-zero p l (λ b g. alone-open profile p l k g o) }
       go false e =
-          let m : Near ls = again _ (gives table n (whole ls)) (i e _ (gives table n (whole ls)) h) in
+          let m : Near ls = again _ (gives profile n (whole ls)) (i e _ (gives profile n (whole ls)) h) in
           record { M = m .M; found = rw (m .found); opens = m .opens }
 
-  pub near-open : (p : ℕ) (ls : List (List ℕ)) {a : Answer State (Unit {0})} → Gives table p (whole ls) a → IsOpen a → Near ls
+  pub near-open : (p : ℕ) (ls : List (List ℕ)) {a : Answer State (Unit {0})} → Gives profile p (whole ls) a → IsOpen a → Near ls
   unfolding whole
-  near-open p [] {a} g h = absurd (rw (nothing-gives table p g) at h)
-  near-open p (l ∷ ls) g h = near-step p l ls (sequel table p (l ++ lineFeed) (whole ls) (feed-lines l) (gives table p (l ++ lineFeed)) g) (gives table p (l ++ lineFeed)) h
+  near-open p [] {a} g h = absurd (rw (nothing-gives profile p g) at h)
+  near-open p (l ∷ ls) g h = near-step p l ls (sequel profile p (l ++ lineFeed) (whole ls) (feed-lines l) (gives profile p (l ++ lineFeed)) g) (gives profile p (l ++ lineFeed)) h
       (λ a g′ h′. near-open (p + length (l ++ lineFeed)) ls g′ h′)
 
   -- An accepted source of whole lines, none of which is left open, and what follows: both are accepted.
@@ -108,35 +108,35 @@ module _ (table : List ℕ) where
     pub end : State
     pub end′ : State
     pub joined : w ≡ first ++ then′
-    pub firstly : Gives table n A (done first tt end)
-    pub thereupon : Gives table m B (done then′ tt end′)
+    pub firstly : Gives profile n A (done first tt end)
+    pub thereupon : Gives profile m B (done then′ tt end′)
 
-  take-apart : {n m : ℕ} {A B : List ℕ} {w : List Record} {u : State} {x q : Answer State (Unit {0})} → Then table m B x q → Gives table n A x → q ≡ done w tt u → (IsOpen x → ⊥) → Parts n m A B w
+  take-apart : {n m : ℕ} {A B : List ℕ} {w : List Record} {u : State} {x q : Answer State (Unit {0})} → Then profile m B x q → Gives profile n A x → q ≡ done w tt u → (IsOpen x → ⊥) → Parts n m A B w
   unfolding after
   take-apart {w = w} {u} (goes {w = v} {u = t} {q = done v′ a t′} g) k e o = record { first = v; then′ = v′; end = t; end′ = t′; joined = cc; firstly = k; thereupon = g }
   take-apart (goes {q = refused r} g) k e o = absurd (true≢false cc)
   take-apart (stands {r} m) k e o = absurd (true≢false cc)
   take-apart (lacks {r} l i) k e o = absurd (o l)
 
-  pub parts : (n : ℕ) (A B : List ℕ) {w : List Record} {u : State} → Lines A → Gives table n (A ++ B) (done w tt u) → ((a : Answer State (Unit {0})) → Gives table n A a → IsOpen a → ⊥) → Parts n (n + length A) A B w
-  parts n A B l g o = take-apart (sequel table n A B l (gives table n A) g) (gives table n A) refl (o _ (gives table n A))
+  pub parts : (n : ℕ) (A B : List ℕ) {w : List Record} {u : State} → Lines A → Gives profile n (A ++ B) (done w tt u) → ((a : Answer State (Unit {0})) → Gives profile n A a → IsOpen a → ⊥) → Parts n (n + length A) A B w
+  parts n A B l g o = take-apart (sequel profile n A B l (gives profile n A) g) (gives profile n A) refl (o _ (gives profile n A))
 
   -- What follows an accepted part; what is refused stays refused.
-  pub compose : (n : ℕ) (A B : List ℕ) {w : List Record} {u : State} {a q : Answer State (Unit {0})} → Lines A → Gives table n A (done w tt u) → Gives table (n + length A) B a → Gives table n (A ++ B) q → q ≡ after w a
-  compose n A B {w} {u} {a} {q} l g h k = go (sequel table n A B l g k) refl
+  pub compose : (n : ℕ) (A B : List ℕ) {w : List Record} {u : State} {a q : Answer State (Unit {0})} → Lines A → Gives profile n A (done w tt u) → Gives profile (n + length A) B a → Gives profile n (A ++ B) q → q ≡ after w a
+  compose n A B {w} {u} {a} {q} l g h k = go (sequel profile n A B l g k) refl
     where
-      go : {x y : Answer State (Unit {0})} → Then table (n + length A) B x y → x ≡ done w tt u → y ≡ after w a
+      go : {x y : Answer State (Unit {0})} → Then profile (n + length A) B x y → x ≡ done w tt u → y ≡ after w a
       go (goes {w = v} {q = q′} i) e =
           let z : v ≡ w = cc in
-          let z′ : q′ ≡ a = begins-only table i h in
+          let z′ : q′ ≡ a = begins-only profile i h in
           rw (z, z′)
       go (stands m) e = absurd (true≢false cc)
       go (lacks m i) e = absurd (true≢false cc)
 
-  pub refused-whole : (n : ℕ) (A B : List ℕ) {r : Refusal} {q : Answer State (Unit {0})} → Lines A → Gives table n A (refused r) → (Lack r → ⊥) → Gives table n (A ++ B) q → q ≡ refused r
-  refused-whole n A B {r} {q} l g o k = go (sequel table n A B l g k) refl
+  pub refused-whole : (n : ℕ) (A B : List ℕ) {r : Refusal} {q : Answer State (Unit {0})} → Lines A → Gives profile n A (refused r) → (Lack r → ⊥) → Gives profile n (A ++ B) q → q ≡ refused r
+  refused-whole n A B {r} {q} l g o k = go (sequel profile n A B l g k) refl
     where
-      go : {x y : Answer State (Unit {0})} → Then table (n + length A) B x y → x ≡ refused r → y ≡ refused r
+      go : {x y : Answer State (Unit {0})} → Then profile (n + length A) B x y → x ≡ refused r → y ≡ refused r
       go (goes i) e = absurd (true≢false cc)
       go (stands m) e = e
       go (lacks {r = r′} m i) e = let z : r′ ≡ r = cc in absurd (o (rw z at m))
@@ -168,22 +168,22 @@ module _ (table : List ℕ) where
   moves f g h e (r ∷ rs) = ap₂ _∷_ (move-move f g r ∙ ap (λ (k : ℕ → ℕ). moveRecord k r) (fun-ext e)) (moves f g h e rs)
 
   -- What stands behind the line is read as before, moved.
-  rest-moves : (n m p q : ℕ) → ((k : ℕ) → n + k + q - p ≡ m + k) → (s : List ℕ) {w : List Record} {u : State} {a : Answer State (Unit {0})} → Gives table n s (done w tt u) → Gives table m s a
+  rest-moves : (n m p q : ℕ) → ((k : ℕ) → n + k + q - p ≡ m + k) → (s : List ℕ) {w : List Record} {u : State} {a : Answer State (Unit {0})} → Gives profile n s (done w tt u) → Gives profile m s a
       → (u′ : State) × (a ≡ done (map (moveRecord (λ k. k + q - p)) w) tt u′)
   unfolding moved carry
-  rest-moves n m p q e s {w} {u} {a} g h = go _ (gives table 0 s)
+  rest-moves n m p q e s {w} {u} {a} g h = go _ (gives profile 0 s)
     where
-      go : (b : Answer State (Unit {0})) → Gives table 0 s b → (u′ : State) × (a ≡ done (map (moveRecord (λ k. k + q - p)) w) tt u′)
+      go : (b : Answer State (Unit {0})) → Gives profile 0 s b → (u′ : State) × (a ≡ done (map (moveRecord (λ k. k + q - p)) w) tt u′)
       go (done w0 x u0) i =
-          let y : done (map (moveRecord (λ k. n + k)) w0) x (moveState (λ k. n + k) u0) ≡ done w tt u = begins-only table (gives-shift table n s i) g in
-          let z : a ≡ done (map (moveRecord (λ k. m + k)) w0) x (moveState (λ k. m + k) u0) = begins-only table h (gives-shift table m s i) in
+          let y : done (map (moveRecord (λ k. n + k)) w0) x (moveState (λ k. n + k) u0) ≡ done w tt u = begins-only profile (gives-shift profile n s i) g in
+          let z : a ≡ done (map (moveRecord (λ k. m + k)) w0) x (moveState (λ k. m + k) u0) = begins-only profile h (gives-shift profile m s i) in
           let c : w ≡ map (moveRecord (λ k. n + k)) w0 = cc in
           (moveState (λ k. m + k) u0, z ∙ ap (λ (l : List Record). done l tt (moveState (λ k. m + k) u0)) (sym (ap (map (moveRecord (λ k. k + q - p))) c ∙ moves (λ k. k + q - p) (λ k. n + k) (λ k. m + k) e w0)))
       go (refused r) i =
-          let y : refused (moveRefusal (λ k. n + k) r) ≡ done w tt u = begins-only table (gives-shift table n s i) g in
+          let y : refused (moveRefusal (λ k. n + k) r) ≡ done w tt u = begins-only profile (gives-shift profile n s i) g in
           absurd (true≢false cc)
 
-  pub gives-same : (p : ℕ) {s t : List ℕ} {a : Answer State (Unit {0})} → s ≡ t → Gives table p s a → Gives table p t a
+  pub gives-same : (p : ℕ) {s t : List ℕ} {a : Answer State (Unit {0})} → s ≡ t → Gives profile p s a → Gives profile p t a
   gives-same p e g = rw e at g
 
   -- A ++ L ++ B is read as w, from place p on; N comes in L's place.
@@ -195,23 +195,23 @@ module _ (table : List ℕ) where
     pub u₁ : State
     pub u₂ : State
     pub joined : w ≡ kept ++ (dropped ++ rest)
-    pub keeps : Gives table p A (done kept tt u₀)
-    pub drops : Gives table (p + length A) (L ++ take 1 B) (done dropped tt u₁)
-    pub rests : Gives table (p + length A + length (L ++ take 1 B)) (drop 1 B) (done rest tt u₂)
-    pub accepts : (wN : List Record) (u : State) (q : Answer State (Unit {0})) → Gives table (p + length A) (N ++ take 1 B) (done wN tt u) → Gives table p (A ++ (N ++ B)) q
+    pub keeps : Gives profile p A (done kept tt u₀)
+    pub drops : Gives profile (p + length A) (L ++ take 1 B) (done dropped tt u₁)
+    pub rests : Gives profile (p + length A + length (L ++ take 1 B)) (drop 1 B) (done rest tt u₂)
+    pub accepts : (wN : List Record) (u : State) (q : Answer State (Unit {0})) → Gives profile (p + length A) (N ++ take 1 B) (done wN tt u) → Gives profile p (A ++ (N ++ B)) q
         → (u′ : State) × (q ≡ done (kept ++ (wN ++ map (moveRecord (λ k. k + length N - length L)) rest)) tt u′)
-    pub refuses : (r : Refusal) (q : Answer State (Unit {0})) → Gives table (p + length A) (N ++ take 1 B) (refused r) → Gives table p (A ++ (N ++ B)) q → q ≡ refused r
+    pub refuses : (r : Refusal) (q : Answer State (Unit {0})) → Gives profile (p + length A) (N ++ take 1 B) (refused r) → Gives profile p (A ++ (N ++ B)) q → q ≡ refused r
 
   unfoldable pub Closed : ℕ → List ℕ → Type 0
-  Closed p s = (a : Answer State (Unit {0})) → Gives table p s a → IsOpen a → ⊥
+  Closed p s = (a : Answer State (Unit {0})) → Gives profile p s a → IsOpen a → ⊥
 
   -- closed alone, closed with its line feed
   closed-feed : (p : ℕ) (l : List ℕ) → Closed 0 l → Closed p (l ++ lineFeed)
   unfolding Closed
-  closed-feed p l c a g o = c _ (gives table 0 l) (moved-open (λ n. p + n) _ (alone-open table p l g (gives-shift table p l (gives table 0 l)) o))
+  closed-feed p l c a g o = c _ (gives profile 0 l) (moved-open (λ n. p + n) _ (alone-open profile p l g (gives-shift profile p l (gives profile 0 l)) o))
 
   module _ (p : ℕ) (A L N : List ℕ) {w : List Record} {u : State} (lines : Lines A) (closedA : Closed p A) (closedL : Closed 0 L) (closedN : Closed 0 N) where
-    exchange-last : Gives table p (A ++ (L ++ [])) (done w tt u) → Exchange p A L N [] w
+    exchange-last : Gives profile p (A ++ (L ++ [])) (done w tt u) → Exchange p A L N [] w
     unfolding Closed after
     exchange-last g =
         let P : Parts p (p + length A) A (L ++ []) w = parts p A (L ++ []) lines g closedA in
@@ -226,21 +226,21 @@ module _ (table : List ℕ) where
           joined = P .joined ∙ ap (λ (l : List Record). P .first ++ l) (sym (append-nil (P .then′)));
           keeps = P .firstly;
           drops = P .thereupon;
-          rests = rw (nothing-gives table n (gives table n [])) at (gives table n []);
+          rests = rw (nothing-gives profile n (gives profile n [])) at (gives profile n []);
           accepts = λ wN v q i k. (v, compose p A (N ++ []) lines (P .firstly) i k ∙ ap (λ (l : List Record). done (P .first ++ l) tt v) (sym (append-nil wN)));
           refuses = λ r q i k. compose p A (N ++ []) lines (P .firstly) i k;
         }
 
-    exchange-feed : (B : List ℕ) → Gives table p (A ++ (L ++ (10 ∷ B))) (done w tt u) → Exchange p A L N (10 ∷ B) w
+    exchange-feed : (B : List ℕ) → Gives profile p (A ++ (L ++ (10 ∷ B))) (done w tt u) → Exchange p A L N (10 ∷ B) w
     unfolding Closed after lineFeed
     exchange-feed B g =
         let m : ℕ = p + length A in
         let P : Parts p m A (L ++ (10 ∷ B)) w = parts p A (L ++ (10 ∷ B)) lines g closedA in
         let Q : Parts m (m + length (L ++ lineFeed)) (L ++ lineFeed) B (P .then′) =
         parts m (L ++ lineFeed) B (feed-lines L) (gives-same m (sym (append-assoc L (10 ∷ []) B)) (P .thereupon)) (closed-feed m L closedL) in
-        let b : Answer State (Unit {0}) = readRows table (suc (length B)) (rowsFrom (m + length (N ++ lineFeed)) B) in
-        let c : Answer State (Unit {0}) = readRows table (suc (length (N ++ (10 ∷ B)))) (rowsFrom m (N ++ (10 ∷ B))) in
-        let c-gives : Gives table m ((N ++ lineFeed) ++ B) c = gives-same m (sym (append-assoc N (10 ∷ []) B)) (gives table m (N ++ (10 ∷ B))) in
+        let b : Answer State (Unit {0}) = readRows profile (suc (length B)) (rowsFrom (m + length (N ++ lineFeed)) B) in
+        let c : Answer State (Unit {0}) = readRows profile (suc (length (N ++ (10 ∷ B)))) (rowsFrom m (N ++ (10 ∷ B))) in
+        let c-gives : Gives profile m ((N ++ lineFeed) ++ B) c = gives-same m (sym (append-assoc N (10 ∷ []) B)) (gives profile m (N ++ (10 ∷ B))) in
         record {
           kept = P .first;
           dropped = Q .first;
@@ -254,15 +254,15 @@ module _ (table : List ℕ) where
           rests = Q .thereupon;
           accepts = λ wN v q i k.
               let (v′, e) = rest-moves (m + length (L ++ lineFeed)) (m + length (N ++ lineFeed)) (length L) (length N)
-              (λ k. omega (arith, length-append L (10 ∷ []), length-append N (10 ∷ []))) B (Q .thereupon) (gives table (m + length (N ++ lineFeed)) B) in (
+              (λ k. omega (arith, length-append L (10 ∷ []), length-append N (10 ∷ []))) B (Q .thereupon) (gives profile (m + length (N ++ lineFeed)) B) in (
                 v′,
-                compose p A (N ++ (10 ∷ B)) lines (P .firstly) (gives table m (N ++ (10 ∷ B))) k
-                    ∙ ap (after (P .first)) (compose m (N ++ lineFeed) B (feed-lines N) i (gives table (m + length (N ++ lineFeed)) B) c-gives ∙ ap (after wN) e),
+                compose p A (N ++ (10 ∷ B)) lines (P .firstly) (gives profile m (N ++ (10 ∷ B))) k
+                    ∙ ap (after (P .first)) (compose m (N ++ lineFeed) B (feed-lines N) i (gives profile (m + length (N ++ lineFeed)) B) c-gives ∙ ap (after wN) e),
               );
-          refuses = λ r q i k. compose p A (N ++ (10 ∷ B)) lines (P .firstly) (gives table m (N ++ (10 ∷ B))) k
+          refuses = λ r q i k. compose p A (N ++ (10 ∷ B)) lines (P .firstly) (gives profile m (N ++ (10 ∷ B))) k
               ∙ ap (after (P .first)) (refused-whole m (N ++ lineFeed) B (feed-lines N) i (closed-feed m N closedN (refused r) i) c-gives);
         }
 
-    pub exchange : {B : List ℕ} → Behind B → Gives table p (A ++ (L ++ B)) (done w tt u) → Exchange p A L N B w
+    pub exchange : {B : List ℕ} → Behind B → Gives profile p (A ++ (L ++ B)) (done w tt u) → Exchange p A L N B w
     exchange nothing g = exchange-last g
     exchange (feed B) g = exchange-feed B g

@@ -11,7 +11,7 @@ use Rattle.lexer.proofs.Branches.{and-split}
 use Rattle.rules.specs.Lexemes.{tokensFrom}
 use Rattle.rules.specs.Records.{Record, ST}
 use Rattle.rules.specs.Reader.{at, Answer, done, refused, after, thence, return, arrive, isLineEnd}
-use Rattle.rules.specs.Statements.{Row, State, rows, firstOf, enter, skipLines, begun, statement, line, times}
+use Rattle.rules.specs.Statements.{Profile, Row, State, rows, firstOf, enter, skipLines, begun, statement, line, times}
 use Rattle.rules.specs.Calls.{gives, lentAt, nothing, found, oneFound, oneRead, statementCall}
 use Rattle.rules.specs.Patch.{allEnds}
 use Rattle.rules.specs.WellFormed.{Stack, fresh}
@@ -63,68 +63,68 @@ unfolding after
 after-false v (done u b t) {s = s} h = let e : b ≡ false = cc in let f : t ≡ s = cc in (u, cc)
 after-false v (refused r) h = absurd (true≢false cc)
 
-module _ (table : List ℕ) where
-  begun-false : (t : State) {w : List Record} {s : State} → begun table t ≡ done w false s → isLineEnd (t .line .here .kind) ≡ true
+module _ (profile : Profile) where
+  begun-false : (t : State) {w : List Record} {s : State} → begun profile t ≡ done w false s → isLineEnd (t .line .here .kind) ≡ true
   begun-false t {w} {s} h = go (isLineEnd (t .line .here .kind)) refl
     where
       go : (b : Bool) → isLineEnd (t .line .here .kind) ≡ b → b ≡ true
       go true e = refl
-      go false e = absurd (never-false (after (ST (t .line .here .from) ∷ []) (line table (times table 16) t)) (sym (begun-at table t e) ∙ h))
+      go false e = absurd (never-false (after (ST (t .line .here .from) ∷ []) (line profile (times profile 16) t)) (sym (begun-at profile t e) ∙ h))
 
-  none-blank : (r : Row) (rs : List Row) {w : List Record} {s : State} → statement table (enter r rs) ≡ done w false s → blankRows (r ∷ rs) ≡ true
+  none-blank : (r : Row) (rs : List Row) {w : List Record} {s : State} → statement profile (enter r rs) ≡ done w false s → blankRows (r ∷ rs) ≡ true
   unfolding skipLines enter firstOf blankRows thence
-  none-blank r rs {w} {s} h = go (skipLines (enter r rs)) refl (sym (statement-is table (enter r rs)) ∙ h)
+  none-blank r rs {w} {s} h = go (skipLines (enter r rs)) refl (sym (statement-is profile (enter r rs)) ∙ h)
     where
-      go : (k : Answer State (Unit {0})) → skipLines (enter r rs) ≡ k → thence k (λ _. begun table) ≡ done w false s → blankRows (r ∷ rs) ≡ true
+      go : (k : Answer State (Unit {0})) → skipLines (enter r rs) ≡ k → thence k (λ _. begun profile) ≡ done w false s → blankRows (r ∷ rs) ≡ true
       go (done w0 u t) e i =
-          let (v, j) = after-false w0 (begun table t) i in
+          let (v, j) = after-false w0 (begun profile t) i in
           skip-blank (firstOf r) rs e (begun-false t j)
       go (refused r′) e i = absurd (true≢false cc)
 
-  one-blank : (p : ℕ) (t : List ℕ) {w : List Record} {s : State} → oneRead table (rowsFrom p t) ≡ done w false s → allEnds (tokensFrom p 0 t) ≡ true
+  one-blank : (p : ℕ) (t : List ℕ) {w : List Record} {s : State} → oneRead profile (rowsFrom p t) ≡ done w false s → allEnds (tokensFrom p 0 t) ≡ true
   unfolding oneRead rowsFrom
   one-blank p t {w} {s} h =
       let (r, rs, e) = some-row p t in
-      let i : arrive (r .first) (statement table (enter r rs)) ≡ done w false s = ap (oneRead table) (sym e) ∙ h in
-      sym (ends-rows (tokensFrom p 0 t)) ∙ ap blankRows e ∙ none-blank r rs (arrive-done (r .first) (statement table (enter r rs)) i)
+      let i : arrive (r .first) (statement profile (enter r rs)) ≡ done w false s = ap (oneRead profile) (sym e) ∙ h in
+      sym (ends-rows (tokensFrom p 0 t)) ∙ ap blankRows e ∙ none-blank r rs (arrive-done (r .first) (statement profile (enter r rs)) i)
 
-  blank-none : (l : List Row) (r : Row) (rs : List Row) → l ≡ r ∷ rs → blankRows l ≡ true → (u : State) × (oneRead table l ≡ done [] false u)
+  blank-none : (l : List Row) (r : Row) (rs : List Row) → l ≡ r ∷ rs → blankRows l ≡ true → (u : State) × (oneRead profile l ≡ done [] false u)
   unfolding oneRead blankRows enter firstOf skipLines thence after
   blank-none l r rs e h =
       let i : isLineEnd (r .first .kind) && blankRows rs ≡ true = rw e at h in
       let (k, _) = and-split (isLineEnd (r .first .kind)) (blankRows rs) i in
       let (u, j, n) = skip-over (firstOf r) rs i in
-      let m : statement table (enter r rs) ≡ done [] false u = statement-is table (enter r rs) ∙ ap (λ (p : Answer State (Unit {0})). thence p (λ _. begun table)) j ∙ ap (after []) (begun-ends table u n) in
-      (u, rw e (arrive-fine (r .first) (statement table (enter r rs)) (end-fine (r .first .kind) k) ∙ m))
+      let m : statement profile (enter r rs) ≡ done [] false u = statement-is profile (enter r rs) ∙ ap (λ (p : Answer State (Unit {0})). thence p (λ _. begun profile)) j ∙ ap (after []) (begun-ends profile u n) in
+      (u, rw e (arrive-fine (r .first) (statement profile (enter r rs)) (end-fine (r .first .kind) k) ∙ m))
 
   -- None is left only before nothing but line feeds, whitespace and comments.
-  pub none-left : (source : List ℕ) (p room : ℕ) → statementCall table source p room ≡ gives nothing → allEnds (tokensFrom p 0 (drop p source)) ≡ true
+  pub none-left : (source : List ℕ) (p room : ℕ) → statementCall profile source p room ≡ gives nothing → allEnds (tokensFrom p 0 (drop p source)) ≡ true
   unfolding statementCall rowsFrom
   none-left source p room h =
-      let (_, l) = lentAt-gives source p (oneFound room (oneRead table (rows (tokensFrom p 0 (drop p source))))) nothing h in
-      let (w, s, e) = nothing-found room (oneRead table (rows (tokensFrom p 0 (drop p source)))) (l .given) in
+      let (_, l) = lentAt-gives source p (oneFound room (oneRead profile (rows (tokensFrom p 0 (drop p source))))) nothing h in
+      let (w, s, e) = nothing-found room (oneRead profile (rows (tokensFrom p 0 (drop p source)))) (l .given) in
       one-blank p (drop p source) e
 
   -- And there none is left.
-  pub none-there : (source : List ℕ) (p room : ℕ) → allEnds (tokensFrom p 0 (drop p source)) ≡ true → statementCall table source p room ≡ lentAt source p (gives nothing)
+  pub none-there : (source : List ℕ) (p room : ℕ) → allEnds (tokensFrom p 0 (drop p source)) ≡ true → statementCall profile source p room ≡ lentAt source p (gives nothing)
   unfolding statementCall rowsFrom oneFound
   none-there source p room h =
       let (r, rs, e) = some-row p (drop p source) in
       let (u, i) = blank-none (rows (tokensFrom p 0 (drop p source))) r rs e (ends-rows (tokensFrom p 0 (drop p source)) ∙ h) in
       ap (λ (a : Answer State Bool). lentAt source p (oneFound room a)) i
 
-  module _ (proper : Proper table) where
-    one-ahead : (p : ℕ) (t : List ℕ) → Small t → Ahead p (oneRead table (rowsFrom p t))
+  module _ (proper : Proper (profile .table)) where
+    one-ahead : (p : ℕ) (t : List ℕ) → Small t → Ahead p (oneRead profile (rowsFrom p t))
     unfolding oneRead
     one-ahead p t m =
         let n : ℕ = p + length t in
         let (r, rs, e) = some-row p t in
         rw e (arrived (Ahead p) (r .first) (λ n i. tt)
-        (stated-ahead n n p (statement-stated n n table proper p fresh (enter r rs) (fresh-ready p) (enter-on n n p fresh r rs (chain-rows n n p p t e (chain-plain p t m))))))
+        (stated-ahead n n p (statement-stated n n profile proper p fresh (enter r rs) (fresh-ready p) (enter-on n n p fresh r rs (chain-rows n n p p t e (chain-plain p t m))))))
 
     -- Each statement read moves at least one byte forward.
-    pub forward : (source : List ℕ) (p room : ℕ) {w : List Record} {q : ℕ} → statementCall table source p room ≡ gives (found w q) → p < q
+    pub forward : (source : List ℕ) (p room : ℕ) {w : List Record} {q : ℕ} → statementCall profile source p room ≡ gives (found w q) → p < q
     unfolding statementCall rowsFrom
     forward source p room {w} {q} h =
-        let (_, l) = lentAt-gives source p (oneFound room (oneRead table (rows (tokensFrom p 0 (drop p source))))) (found w q) h in
-        found-ahead p room (oneRead table (rows (tokensFrom p 0 (drop p source)))) (one-ahead p (drop p source) (small-parts p source (l .small) .1)) (l .given)
+        let (_, l) = lentAt-gives source p (oneFound room (oneRead profile (rows (tokensFrom p 0 (drop p source))))) (found w q) h in
+        found-ahead p room (oneRead profile (rows (tokensFrom p 0 (drop p source)))) (one-ahead p (drop p source) (small-parts p source (l .small) .1)) (l .given)

@@ -6,6 +6,7 @@ use Prim.Native.Nat.{ℕ, zero, suc}
 use Prim.Native.String.{String}
 use Rattle.lexer.specs.Text.{bytes}
 use Rattle.names.specs.Table.{operations, spellings, row, rowsOf}
+use Rattle.rules.specs.Statements.{present}
 use Rattle.rules.specs.Records.{Record, ST, VC, LL, LI, LC, LT, listing}
 use Rattle.rules.specs.Reader.{at, nowhere}
 use Rattle.rules.specs.Calls.{Result, gives, refuses, Found, nothing, found, statementCall}
@@ -57,7 +58,7 @@ cases =
 
 unfoldable pub Patches : List Case → Type 0
 Patches [] = Unit {0}
-Patches (c ∷ cs) = (patch operations (bytes (c .old)) (listing (c .records)) (c .place) (bytes (c .new)) (c .rooms) (c .rooms) ≡ c .answer) × Patches cs
+Patches (c ∷ cs) = (patch present (bytes (c .old)) (listing (c .records)) (c .place) (bytes (c .new)) (c .rooms) (c .rooms) ≡ c .answer) × Patches cs
 
 pub patches : Patches cases
 unfolding openPatch spellings row rowsOf operations case become cases Patches
@@ -68,12 +69,12 @@ unfoldable pub blanks : ℕ → List ℕ
 blanks zero = []
 blanks (suc n) = 32 ∷ blanks n
 
-pub too-long : patch operations (bytes "nop") (listing (ST 0 ∷ LI 0 3 97 0 3 3 ∷ [])) 0 (bytes "times 1" ++ blanks 65530) 1000 1000 ≡ refuses (nowhere 1)
+pub too-long : patch present (bytes "nop") (listing (ST 0 ∷ LI 0 3 97 0 3 3 ∷ [])) 0 (bytes "times 1" ++ blanks 65530) 1000 1000 ≡ refuses (nowhere 1)
 unfolding openPatch blanks
 too-long = refl
 
 -- Which lines leave a `times` open: none that the full read refuses with another number.
-pub open-alone : (leavesOpen operations (bytes "times 1") ≡ true) × (leavesOpen operations (bytes "times 1;\u{80}") ≡ false) × (leavesOpen operations (bytes "times 1" ++ blanks 65530) ≡ false)
+pub open-alone : (leavesOpen present (bytes "times 1") ≡ true) × (leavesOpen present (bytes "times 1;\u{80}") ≡ false) × (leavesOpen present (bytes "times 1" ++ blanks 65530) ≡ false)
 unfolding openPatch blanks spellings row rowsOf operations
 open-alone = (refl, refl, refl)
 
@@ -93,7 +94,7 @@ reads =
 
 unfoldable pub Statements : List Read → Type 0
 Statements [] = Unit {0}
-Statements (r ∷ rs) = (statementCall operations (bytes (r .source)) (r .place) 1000 ≡ r .answer) × Statements rs
+Statements (r ∷ rs) = (statementCall present (bytes (r .source)) (r .place) 1000 ≡ r .answer) × Statements rs
 
 pub statements : Statements reads
 unfolding openPatch spellings row rowsOf operations reads Statements

@@ -32,3 +32,6 @@ pub mod Demand3
 pub mod Bound
 pub mod KnownPatch
 pub mod Numbers
+pub mod OneRow
+pub mod Data
+pub mod WideRefused

@@ -12,7 +12,7 @@ use borrow.Author.Tests.{le-leb, lt-leb, leb-true}
 use Rattle.rules.specs.Lexemes.{tokensFrom}
 use Rattle.rules.specs.Records.{Record, ST, VC, VL, VI, VS, PF, IN, OR, OS, OI, OF, OD, OX, LL, LI, LD, LC, LT, listing}
 use Rattle.rules.specs.Reader.{Refusal, Answer, done, refused, after}
-use Rattle.rules.specs.Statements.{Row, State, firstOf, enter, accepted, reading}
+use Rattle.rules.specs.Statements.{Profile, Row, State, firstOf, enter, accepted, reading}
 use Rattle.rules.specs.Decode.{decode}
 use Rattle.rules.specs.WellFormed.{Stack, complete, checked, checkedAll, fresh, wellFormed}
 use Rattle.rules.specs.Patch.{statementFrom}
@@ -143,38 +143,38 @@ module _ (n hi : ℕ) where
   fits : (lo : ℕ) (κ : Stack) {w : List Record} {u : State} → Listed lo κ (done w tt u) → Fits lo κ w
   fits lo κ (listed f) = f
 
-module _ (table : List ℕ) (proper : Proper table) where
+module _ (profile : Profile) (proper : Proper (profile .table)) where
   module _ (n hi : ℕ) where
-    pub reads-listed : {s : State} {p : Answer State (Unit {0})} → Reads table s p → (lo : ℕ) (κ : Stack) → Ready lo κ → OnS n hi 0 lo 0 κ κ s → Listed n hi lo κ p
-    reads-listed (Reads.stop {s} z) lo κ y o = stop-listed n hi lo κ y (rw z at (statement-stated n hi table proper lo κ s y o))
+    pub reads-listed : {s : State} {p : Answer State (Unit {0})} → Reads profile s p → (lo : ℕ) (κ : Stack) → Ready lo κ → OnS n hi 0 lo 0 κ κ s → Listed n hi lo κ p
+    reads-listed (Reads.stop {s} z) lo κ y o = stop-listed n hi lo κ y (rw z at (statement-stated n hi profile proper lo κ s y o))
     reads-listed (Reads.fail z) lo κ y o = unlisted
-    reads-listed (Reads.go {s} z r) lo κ y o = go-listed n hi lo κ (λ lo′ κ′ y′ o′. reads-listed r lo′ κ′ y′ o′) (rw z at (statement-stated n hi table proper lo κ s y o))
+    reads-listed (Reads.go {s} z r) lo κ y o = go-listed n hi lo κ (λ lo′ κ′ y′ o′. reads-listed r lo′ κ′ y′ o′) (rw z at (statement-stated n hi profile proper lo κ s y o))
 
-    pub begins-listed : (l : List Row) {p : Answer State (Unit {0})} → Begins table l p → (lo : ℕ) (κ : Stack) → Ready lo κ → Chain n hi lo (flat l) → Listed n hi lo κ p
+    pub begins-listed : (l : List Row) {p : Answer State (Unit {0})} → Begins profile l p → (lo : ℕ) (κ : Stack) → Ready lo κ → Chain n hi lo (flat l) → Listed n hi lo κ p
     begins-listed l (fine {r} {rs} f g) lo κ y c = reads-listed g lo κ y (enter-on n hi lo κ r rs c)
     begins-listed l (broken f) lo κ y c = unlisted
 
-  pub gives-fits : (p : ℕ) (s : List ℕ) (w : List Record) (u : State) → Small s → Gives table p s (done w tt u) → Fits (p + length s) (p + length s) p fresh w
+  pub gives-fits : (p : ℕ) (s : List ℕ) (w : List Record) (u : State) → Small s → Gives profile p s (done w tt u) → Fits (p + length s) (p + length s) p fresh w
   gives-fits p s w u m g = fits (p + length s) (p + length s) p fresh (begins-listed (p + length s) (p + length s) (rowsFrom p s) g p fresh (fresh-ready p) (chain-rows _ _ p p s refl (chain-plain p s m)))
 
-  pub gives-feed : (p : ℕ) (s : List ℕ) (w : List Record) (u : State) → Small s → Gives table p (s ++ lineFeed) (done w tt u) → Fits (p + length (s ++ lineFeed)) (p + length s) p fresh w
+  pub gives-feed : (p : ℕ) (s : List ℕ) (w : List Record) (u : State) → Small s → Gives profile p (s ++ lineFeed) (done w tt u) → Fits (p + length (s ++ lineFeed)) (p + length s) p fresh w
   unfolding lineFeed
   gives-feed p s w u m g = fits (p + length (s ++ (10 ∷ []))) (p + length s) p fresh
       (begins-listed (p + length (s ++ (10 ∷ []))) (p + length s) (rowsFrom p (s ++ (10 ∷ []))) g p fresh (fresh-ready p) (chain-rows _ _ p p (s ++ (10 ∷ [])) refl (chain-feed p s m)))
 
-  pub listing-formed : (s : List ℕ) (w : List Record) → Small s → reading table s ≡ accepted w → wellFormed (length s) w ≡ true
+  pub listing-formed : (s : List ℕ) (w : List Record) → Small s → reading profile s ≡ accepted w → wellFormed (length s) w ≡ true
   unfolding reading wellFormed
   listing-formed s w m e =
-      let (u, g) = accepts-run table 0 s w e in
+      let (u, g) = accepts-run profile 0 s w e in
       let f : Fits (0 + length s) (0 + length s) 0 fresh w = gives-fits 0 s w u m g in
       let i : 0 + length s ≡ length s = omega arith in
       let c : checkedAll (length s) fresh w ≡ some (f .top) = rw i at (f .checks) in
       rw c (f .whole)
 
   -- The bytes of a listing that is read are decoded to its records.
-  pub listing-decodes : (s : List ℕ) (w : List Record) → Small s → length s ≤ 65536 → reading table s ≡ accepted w → decode (listing w) ≡ some w
+  pub listing-decodes : (s : List ℕ) (w : List Record) → Small s → length s ≤ 65536 → reading profile s ≡ accepted w → decode (listing w) ≡ some w
   unfolding reading
   listing-decodes s w m l e =
-      let (u, g) = accepts-run table 0 s w e in
+      let (u, g) = accepts-run profile 0 s w e in
       let f : Fits (0 + length s) (0 + length s) 0 fresh w = gives-fits 0 s w u m g in
       decoded w (all-ranged (0 + length s) (omega arith) fresh w (f .checks) (f .extras))

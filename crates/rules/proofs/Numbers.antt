@@ -18,7 +18,7 @@ use Rattle.lexer.specs.declared.TokenRead.{TokenRead}
 use Rattle.lexer.specs.declared.TokenRead.the-variants.{Read, Refused}
 use Rattle.rules.specs.Records.{Record, listing}
 use Rattle.rules.specs.Reader.{Refusal, at, nowhere, encoding, valuesOf, Answer, done, refused, thence, _>>=_, refusedAs, arrive}
-use Rattle.rules.specs.Statements.{Row, State, enter, statement, statements, Outcome, accepted, refusal, readRows, readFrom, reading}
+use Rattle.rules.specs.Statements.{Profile, Row, State, enter, statement, statements, Outcome, accepted, refusal, readRows, readFrom, reading}
 use Rattle.rules.specs.Calls.{Result, gives, refuses, unless, tooLong, foreign, ascii, lent, lentAt, inRoom, tokenRead, tokenCall, listed, fullRead, oneFound, oneRead, statementCall}
 use Rattle.rules.specs.Evaluate.{signed32, evaluate}
 use Rattle.rules.specs.Decode.{decode}
@@ -97,15 +97,15 @@ evaluate-numbered op a b = go (eqb op 0) (eqb op 1) (eqb op 2)
     go false false true = signed32-numbered (a *ℤ b)
     go false false false = unless-numbered (eqb (natAbs b) 0) (nowhere 51) (λ e. omega arith) (signed32-numbered (quotZ a b))
 
-module _ (table : List ℕ) where
+module _ (profile : Profile) where
   OutcomeNumbered : Outcome → Type 0
   OutcomeNumbered (accepted w) = Unit {0}
   OutcomeNumbered (refusal r) = ¬ (valuesOf r .number ≡ 0)
 
-  reading-numbered : (p : ℕ) (s : List ℕ) (o : Outcome) → readFrom table p s ≡ o → OutcomeNumbered o
+  reading-numbered : (p : ℕ) (s : List ℕ) (o : Outcome) → readFrom profile p s ≡ o → OutcomeNumbered o
   unfolding OutcomeNumbered
   reading-numbered p s (accepted w) e = tt
-  reading-numbered p s (refusal r) e = mild-numbered r (mild-or-lacks table p s r (refuses-run table p s r e))
+  reading-numbered p s (refusal r) e = mild-numbered r (mild-or-lacks profile p s r (refuses-run profile p s r e))
 
   listed-numbered : (room : ℕ) (o : Outcome) → OutcomeNumbered o → Numbered (listed room o)
   unfolding OutcomeNumbered listed
@@ -113,39 +113,39 @@ module _ (table : List ℕ) where
   listed-numbered room (refusal r) h = named h
 
   -- where a statement is refused, so are the statements from it on
-  first-refused : (n : ℕ) (s : State) (c : Refusal) → statement table s ≡ refused c → statements table (suc n) s ≡ refused c
+  first-refused : (n : ℕ) (s : State) (c : Refusal) → statement profile s ≡ refused c → statements profile (suc n) s ≡ refused c
   unfolding statements _>>=_ thence
   first-refused n s c e = rw e
 
-  one-refused : (n : ℕ) (l : List Row) (c : Refusal) → oneRead table l ≡ refused c → readRows table (suc n) l ≡ refused c
+  one-refused : (n : ℕ) (l : List Row) (c : Refusal) → oneRead profile l ≡ refused c → readRows profile (suc n) l ≡ refused c
   unfolding oneRead readRows arrive
   one-refused n [] c e = let k : nowhere 0 ≡ c = cc in ap refused k
   one-refused n (r ∷ rs) c e = go (refusedAs (r .first .kind)) e
     where
-      go : (o : Option ℕ) → maybe o (statement table (enter r rs)) (λ m. refused (at m (r .first .from) (r .first .to))) ≡ refused c
-          → maybe o (statements table (suc n) (enter r rs)) (λ m. refused (at m (r .first .from) (r .first .to))) ≡ refused c
+      go : (o : Option ℕ) → maybe o (statement profile (enter r rs)) (λ m. refused (at m (r .first .from) (r .first .to))) ≡ refused c
+          → maybe o (statements profile (suc n) (enter r rs)) (λ m. refused (at m (r .first .from) (r .first .to))) ≡ refused c
       go none i = first-refused n (enter r rs) c i
       go (some m) i = let k : at m (r .first .from) (r .first .to) ≡ c = cc in ap refused k
 
-  one-numbered : (p room : ℕ) (s : List ℕ) (a : Answer State Bool) → oneRead table (rowsFrom p s) ≡ a → Numbered (oneFound room a)
+  one-numbered : (p room : ℕ) (s : List ℕ) (a : Answer State Bool) → oneRead profile (rowsFrom p s) ≡ a → Numbered (oneFound room a)
   unfolding oneFound
   one-numbered p room s (done w true t) e = inRoom-numbered room w _
   one-numbered p room s (done w false t) e = accepts
-  one-numbered p room s (refused r) e = named (mild-numbered r (mild-or-lacks table p s r (rw (one-refused (length s) (rowsFrom p s) r e) at (given table p s))))
+  one-numbered p room s (refused r) e = named (mild-numbered r (mild-or-lacks profile p s r (rw (one-refused (length s) (rowsFrom p s) r e) at (given profile p s))))
 
   reread-numbered : (s : List ℕ) (rs : List Record) (a : ℕ) (new : List ℕ) (roomS roomL : ℕ) (o : Outcome) → OutcomeNumbered o → Numbered (reread s rs a new roomS roomL o)
   unfolding OutcomeNumbered reread placedIn
   reread-numbered s rs a new roomS roomL (accepted w) h = unless-numbered (ltb roomS (length (edited s a new))) (nowhere 6) (λ e. omega arith) (inRoom-numbered roomL _ _)
   reread-numbered s rs a new roomS roomL (refusal r) h = named h
 
-  patched-numbered : (s : List ℕ) (o : Option (List Record)) (a : ℕ) (new : List ℕ) (roomS roomL : ℕ) → Numbered (patched table s o a new roomS roomL)
+  patched-numbered : (s : List ℕ) (o : Option (List Record)) (a : ℕ) (new : List ℕ) (roomS roomL : ℕ) → Numbered (patched profile s o a new roomS roomL)
   unfolding patched
   patched-numbered s none a new roomS roomL = named {c = nowhere 41} (λ e. omega arith)
   patched-numbered s (some rs) a new roomS roomL = unless-numbered (not (wellFormed (length s) rs)) (nowhere 41) (λ e. omega arith)
-      (unless-numbered (openLine table s a new) (nowhere 40) (λ e. omega arith)
-      (reread-numbered s rs a new roomS roomL (readFrom table a (new ++ take 1 (behind s a))) (reading-numbered a (new ++ take 1 (behind s a)) _ refl)))
+      (unless-numbered (openLine profile s a new) (nowhere 40) (λ e. omega arith)
+      (reread-numbered s rs a new roomS roomL (readFrom profile a (new ++ take 1 (behind s a))) (reading-numbered a (new ++ take 1 (behind s a)) _ refl)))
 
-  pub numbers-tell : NumbersTell table
+  pub numbers-tell : NumbersTell profile
   unfolding tokenCall statementCall fullRead reading patch rowsFrom
   numbers-tell = record {
     ofToken = λ s p c e. tells (lentAt-numbered s p (token-numbered p (tokenAt (drop p s)))) e;

@@ -13,7 +13,7 @@ use Rattle.names.specs.Names.{directives}
 use Rattle.rules.specs.Records.{Record, ST}
 use Rattle.rules.specs.Reader.{at, Answer, done, refused, Reader, Line, after, thence, _>>=_, _>>_, return, write, refusedAs, arrive, step, next, ahead, refuseHere, isLineEnd}
 use Rattle.rules.specs.Operands.{isWord}
-use Rattle.rules.specs.Statements.{Row, State, over, inLine, firstOf, enter, skipLines, passing, label, instruction, constant, dataOf, line, times, begun, statement, statements}
+use Rattle.rules.specs.Statements.{Profile, Row, State, over, inLine, firstOf, enter, skipLines, passing, label, instruction, constant, dataOf, line, times, begun, statement, statements}
 use Rattle.rules.proofs.TokenKinds.{word-inside, name-inside, operation-inside}
 use Rattle.rules.proofs.Move.{Mild, Any, Stays, arrived, bad-mild, same, andThen, after-stays, thence-stays, expression-shifts}
 use Rattle.rules.proofs.MoveState.{skipLines-shifts, inLines, label-shifts, instruction-shifts, constant-shifts, dataOf-shifts, content-shifts, times-shifts}
@@ -88,40 +88,40 @@ passing-falls n s h i m g = thence-stays (Lower n) Any (λ _. m) (λ _ t j. lowe
 abbrev here′ : State → Kind
 here′ s = s .line .here .kind
 
-module _ (table : List ℕ) where
-  times-falls : (k n : ℕ) (s : State) → Below n s → isLineEnd (here′ s) ≡ false → Stays (Lower n) Any (times table k s)
+module _ (profile : Profile) where
+  times-falls : (k n : ℕ) (s : State) → Below n s → isLineEnd (here′ s) ≡ false → Stays (Lower n) Any (times profile k s)
   unfolding times inLine over refuseHere ahead _>>=_ thence
   times-falls zero n s h i = tt
   times-falls (suc k) n s h i = after-stays (Lower n) Any [] _ (passing-falls n s h i _ (λ q t j.
       andThen (inLines same (Below q) (closed q) (closed-row q) (expression-shifts same)) (andThen (skipLines-shifts same (Below q) (closed q) (closed-row q))
-      (content-shifts same (Below q) (closed q) (closed-row q) table (s .line .here) (times-shifts same (Below q) (closed q) (closed-row q) table k))) .keeps t j))
+      (content-shifts same (Below q) (closed q) (closed-row q) profile (s .line .here) (times-shifts same (Below q) (closed q) (closed-row q) profile k))) .keeps t j))
 
   module _ (k n : ℕ) (s : State) (h : Below n s) where
     x : Lexeme
     x = s .line .here
 
-    line-falls : Stays (Lower n) Any (line table (times table k) s)
+    line-falls : Stays (Lower n) Any (line profile (times profile k) s)
     unfolding line inLine over ahead refuseHere _>>=_ thence
-    line-falls = after-stays (Lower n) Any [] _ (by-operation (operationIn table (here′ s)) refl)
+    line-falls = after-stays (Lower n) Any [] _ (by-operation (operationIn (profile .table) (here′ s)) refl)
       where
         by-word : (b : Bool) → isWord (here′ s) ≡ b → Stays (Lower n) Any (if_then_else_ {A = Reader State (Unit {0})} b (passing (inLine (label (s .line .here)))) (inLine (refuseHere 20)) s)
         by-word true e = passing-falls n s h (word-inside (here′ s) e) _ (λ q t j. inLines same (Below q) (closed q) (closed-row q) (λ Q c. label-shifts same Q c (s .line .here)) .keeps t j)
         by-word false e = tt
 
-        by-number : isLineEnd (here′ s) ≡ false → (d : ℕ) (b b′ : Bool) → Stays (Lower n) Any (if_then_else_ {A = Reader State (Unit {0})} b (passing (constant (s .line .here))) (if b′ then (passing (dataOf (s .line .here) d)) else (times table k)) s)
+        by-number : isLineEnd (here′ s) ≡ false → (d : ℕ) (b b′ : Bool) → Stays (Lower n) Any (if_then_else_ {A = Reader State (Unit {0})} b (passing (constant (s .line .here))) (if b′ then (passing (dataOf (profile .takes) (s .line .here) d)) else (times profile k)) s)
         by-number i d true b′ = passing-falls n s h i _ (λ q t j. constant-shifts same (Below q) (closed q) (closed-row q) (s .line .here) .keeps t j)
-        by-number i d false true = passing-falls n s h i _ (λ q t j. dataOf-shifts same (Below q) (closed q) (closed-row q) (s .line .here) d .keeps t j)
+        by-number i d false true = passing-falls n s h i _ (λ q t j. dataOf-shifts same (Below q) (closed q) (closed-row q) (profile .takes) (s .line .here) d .keeps t j)
         by-number i d false false = times-falls k n s h i
 
         by-directive : (o : Option ℕ) → nameIn directives (here′ s) ≡ o → Stays (Lower n) Any (maybe {B = Reader State (Unit {0})} o (if isWord (here′ s) then (passing (inLine (label (s .line .here)))) else (inLine (refuseHere 20)))
-            (λ d. if eqb d 0 then (passing (constant (s .line .here))) else if ltb d 3 then (passing (dataOf (s .line .here) d)) else (times table k)) s)
+            (λ d. if eqb d 0 then (passing (constant (s .line .here))) else if ltb d 3 then (passing (dataOf (profile .takes) (s .line .here) d)) else (times profile k)) s)
         by-directive none e = by-word (isWord (here′ s)) refl
         by-directive (some d) e = by-number (name-inside directives (here′ s) d e) d (eqb d 0) (ltb d 3)
 
-        by-operation : (o : Option ℕ) → operationIn table (here′ s) ≡ o → Stays (Lower n) Any (maybe {B = Reader State (Unit {0})} o (maybe (nameIn directives (here′ s)) (if isWord (here′ s) then (passing (inLine (label (s .line .here)))) else (inLine (refuseHere 20)))
-            (λ d. if eqb d 0 then (passing (constant (s .line .here))) else if ltb d 3 then (passing (dataOf (s .line .here) d)) else (times table k))) (λ op. passing (instruction (s .line .here) op)) s)
+        by-operation : (o : Option ℕ) → operationIn (profile .table) (here′ s) ≡ o → Stays (Lower n) Any (maybe {B = Reader State (Unit {0})} o (maybe (nameIn directives (here′ s)) (if isWord (here′ s) then (passing (inLine (label (s .line .here)))) else (inLine (refuseHere 20)))
+            (λ d. if eqb d 0 then (passing (constant (s .line .here))) else if ltb d 3 then (passing (dataOf (profile .takes) (s .line .here) d)) else (times profile k))) (λ op. passing (instruction (s .line .here) op)) s)
         by-operation none e = by-directive (nameIn directives (here′ s)) refl
-        by-operation (some op) e = passing-falls n s h (operation-inside table (here′ s) op e) _ (λ q t j. instruction-shifts same (Below q) (closed q) (closed-row q) (s .line .here) op .keeps t j)
+        by-operation (some op) e = passing-falls n s h (operation-inside (profile .table) (here′ s) op e) _ (λ q t j. instruction-shifts same (Below q) (closed q) (closed-row q) (s .line .here) op .keeps t j)
 
   -- what a statement leaves: fewer tokens where one was read
   abbrev Left : ℕ → Answer State Bool → Type 0
@@ -140,38 +140,38 @@ module _ (table : List ℕ) where
   true-left n (done w a t) h = h
   true-left n (refused r) h = tt
 
-  begun-left : (n : ℕ) (s : State) → Below n s → Left n (begun table s)
+  begun-left : (n : ℕ) (s : State) → Below n s → Left n (begun profile s)
   unfolding begun inLine over ahead write return _>>=_ _>>_ thence
   begun-left n s h = after-left n [] _ (by-end (isLineEnd (here′ s)))
     where
-      by-end : (b : Bool) → Left n (if_then_else_ {A = Reader State Bool} b (return false) (write (ST (s .line .here .from)) >> line table (times table 16) >> return true) s)
+      by-end : (b : Bool) → Left n (if_then_else_ {A = Reader State Bool} b (return false) (write (ST (s .line .here .from)) >> line profile (times profile 16) >> return true) s)
       by-end true = tt
-      by-end false = true-left n (after (ST (s .line .here .from) ∷ []) (line table (times table 16) s)) (after-stays (Lower n) Any (ST (s .line .here .from) ∷ []) (line table (times table 16) s) (line-falls 16 n s h))
+      by-end false = true-left n (after (ST (s .line .here .from) ∷ []) (line profile (times profile 16) s)) (after-stays (Lower n) Any (ST (s .line .here .from) ∷ []) (line profile (times profile 16) s) (line-falls 16 n s h))
 
-  skipped-left : (n : ℕ) (p : Answer State (Unit {0})) → Stays (Below n) Any p → Left n (thence p (λ _. begun table))
+  skipped-left : (n : ℕ) (p : Answer State (Unit {0})) → Stays (Below n) Any p → Left n (thence p (λ _. begun profile))
   unfolding thence
-  skipped-left n (done w a t) h = after-left n w (begun table t) (begun-left n t h)
+  skipped-left n (done w a t) h = after-left n w (begun profile t) (begun-left n t h)
   skipped-left n (refused r) h = tt
 
-  pub statement-left : (n : ℕ) (s : State) → Below n s → Left n (statement table s)
+  pub statement-left : (n : ℕ) (s : State) → Below n s → Left n (statement profile s)
   unfolding statement _>>_ _>>=_
   statement-left n s h = skipped-left n (skipLines s) (skipLines-shifts same (Below n) (closed n) (closed-row n) .keeps s h)
 
   -- THE FUEL IS ENOUGH: with more fuel than tokens left, `statements` is the run.
-  from-fuel : (n : ℕ) (s : State) → ((t : State) → Lower n t → Reads table t (statements table n t)) → (p : Answer State Bool) → statement table s ≡ p → Left n p
-      → Reads table s (thence p (λ more. if more then (statements table n) else (return tt)))
+  from-fuel : (n : ℕ) (s : State) → ((t : State) → Lower n t → Reads profile t (statements profile n t)) → (p : Answer State Bool) → statement profile s ≡ p → Left n p
+      → Reads profile s (thence p (λ more. if more then (statements profile n) else (return tt)))
   unfolding thence after return
   from-fuel n s ih (done w true t) e l = go e (ih t l)
   from-fuel n s ih (done w false t) e l = rw (append-nil w) (stop e)
   from-fuel n s ih (refused r) e l = fail e
 
-  pub enough : (n : ℕ) (s : State) → Below n s → Reads table s (statements table (suc n) s)
+  pub enough : (n : ℕ) (s : State) → Below n s → Reads profile s (statements profile (suc n) s)
   unfolding statements _>>=_
-  enough zero s h = from-fuel zero s (λ t j. absurd j) (statement table s) refl (statement-left zero s h)
-  enough (suc n) s h = from-fuel (suc n) s (λ t j. enough n t j) (statement table s) refl (statement-left (suc n) s h)
+  enough zero s h = from-fuel zero s (λ t j. absurd j) (statement profile s) refl (statement-left zero s h)
+  enough (suc n) s h = from-fuel (suc n) s (λ t j. enough n t j) (statement profile s) refl (statement-left (suc n) s h)
 
   -- A run is the only one.
-  pub only : {s : State} {p q : Answer State (Unit {0})} → Reads table s p → Reads table s q → p ≡ q
+  pub only : {s : State} {p q : Answer State (Unit {0})} → Reads profile s p → Reads profile s q → p ≡ q
   only (stop a) (stop b) = cc
   only (stop a) (fail b) = cc
   only (stop a) (go b r) = cc

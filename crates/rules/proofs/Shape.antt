@@ -14,7 +14,7 @@ use lib.ListN.{length, take, drop, length-append, length-take, take-append-drop}
 use borrow.Author.Tests.{le-leb, lt-ltb, eq-eqb}
 use Rattle.lexer.specs.Text.{if_then_else_, maybe, is, bytes, same}
 use Rattle.rules.specs.Lexemes.{Kind, word, number, quoted, mark, newline, blank, comment, invalid, end, bad, Lexeme, nameIn, operationIn}
-use Rattle.names.specs.Names.{registers, segments, sizes, named, operationNamed, placeFrom}
+use Rattle.names.specs.Names.{registers, segments, sizes, directives, named, operationNamed, placeFrom}
 use Rattle.rules.specs.Records.{Record, ST, VC, VL, VI, VS, PF, IN, OR, OS, OI, OF, OD, OX, LL, LI, LD, LC, LT, field}
 use Rattle.rules.specs.Reader.{at, Reader, Line, _>>=_, _>>_, return, write, refuse, step, next, ahead, kind, passed, isMark, isLineEnd, expect}
 use Rattle.rules.specs.Expressions.{operatorOf, leftLevel, rightLevel, prefixLevel, character, atomOf, atom, primary, infixes, expr, expression}
@@ -158,6 +158,10 @@ segment-small k r h = name-small segments k r h
 pub size-small : (k : Kind) (r : ℕ) → nameIn sizes k ≡ some r → r < 2
 unfolding sizes
 size-small k r h = name-small sizes k r h
+
+pub directive-small : (k : Kind) (r : ℕ) → nameIn directives k ≡ some r → r < 4
+unfolding directives
+directive-small k r h = name-small directives k r h
 
 -- A table that numbers operations.
 pub operation-small : (table : List ℕ) → Proper table → (k : Kind) (r : ℕ) → operationIn table k ≡ some r → r < 99
@@ -519,7 +523,7 @@ module _ (n hi p0 : ℕ) (rest : List Lexeme) where
   no-data : {b c : ℕ} {κ : Stack} → Triple (Checks n) (On b c κ) (return []) (λ ds. Data b κ ds)
   no-data {b} = returns [] (λ k s h. (omega (arith, h .low), on-less (le-refl b) zero-le h))
 
-  module _ {κ : Stack} {others : Reader Line (List ℕ)} (rest′ : (b : ℕ) → Triple (Checks n) (On b 0 κ) others (λ ds. Data b κ ds)) where
+  module _ (takes : ℕ → ℕ → Bool) {κ : Stack} {others : Reader Line (List ℕ)} (rest′ : (b : ℕ) → Triple (Checks n) (On b 0 κ) others (λ ds. Data b κ ds)) where
     chunk : {b c : ℕ} (x : Lexeme) (g : List ℕ) → Facts n hi p0 b c x → length g + 4 * x .from ≤ 4 * x .to → Triple (Checks n) (On b (x .to) κ) (next >> others >>= λ ds. return (g ++ ds)) (λ ds. Data b κ ds)
     chunk {b} x g f i = bind (andThen nexts (λ _. rest′ (x .to))) λ ds. returns (g ++ ds) (λ k s h.
         (omega (arith, length-append g ds, h .0, f .later), on-less (le-trans (f .later) (f .sound .ordered)) (le-refl 0) (h .1)))
@@ -527,7 +531,7 @@ module _ (n hi p0 : ℕ) (rest : List Lexeme) where
     comma : {b c : ℕ} (x : Lexeme) → Facts n hi p0 b c x → Triple (Checks n) (On b (x .to) κ) (next >> others) (λ ds. Data b κ ds)
     comma {b} x f = behind (λ ds k s h. (omega (arith, h .0, f .later, f .sound .ordered), on-less (le-trans (f .later) (f .sound .ordered)) (le-refl 0) (h .1))) (andThen nexts (λ _. rest′ (x .to)))
 
-    literalOf-on : {b c : ℕ} (k : Kind) (x : Lexeme) (width : ℕ) → x .kind ≡ k → Facts n hi p0 b c x → Triple (Checks n) (On b (x .to) κ) (literalOf k width others) (λ ds. Data b κ ds)
+    literalOf-on : {b c : ℕ} (k : Kind) (x : Lexeme) (width : ℕ) → x .kind ≡ k → Facts n hi p0 b c x → Triple (Checks n) (On b (x .to) κ) (literalOf takes k width others) (λ ds. Data b κ ds)
     unfolding literalOf isLineEnd
     literalOf-on newline x width e f = no-data
     literalOf-on end x width e f = no-data
@@ -537,17 +541,17 @@ module _ (n hi p0 : ℕ) (rest : List Lexeme) where
         whether shut′ (λ _. chunk x g f (omega (arith, z .0))) (λ _. here-fails 26)
     literalOf-on (number v) x width e f =
         let z : (x .from < x .to) × (x .to ≤ hi) = f .sound .strict (ap isLineEnd e) in
-        chunk x (take width (field v)) f (omega (arith, z .0, width-four width v))
+        whether (takes width v) (λ _. chunk x (take width (field v)) f (omega (arith, z .0, width-four width v))) (λ _. here-fails 60)
     literalOf-on (word w) x width e f = here-fails 15
     literalOf-on blank x width e f = here-fails 15
     literalOf-on comment x width e f = here-fails 15
     literalOf-on invalid x width e f = here-fails 15
     literalOf-on (bad m) x width e f = here-fails 15
 
-  pub literals-on : {b c : ℕ} {κ : Stack} (m width : ℕ) → Triple (Checks n) (On b c κ) (literals m width) (λ ds. Data b κ ds)
+  pub literals-on : (takes : ℕ → ℕ → Bool) {b c : ℕ} {κ : Stack} (m width : ℕ) → Triple (Checks n) (On b c κ) (literals takes m width) (λ ds. Data b κ ds)
   unfolding literals
-  literals-on zero width = no-data
-  literals-on (suc m) width = kindThen _ λ x f. literalOf-on (λ b. literals-on m width) (x .kind) x width refl f
+  literals-on takes zero width = no-data
+  literals-on takes (suc m) width = kindThen _ λ x f. literalOf-on takes (λ b. literals-on takes m width) (x .kind) x width refl f
 
   -- A label, whose word x is passed.
   pub label-on : {b c : ℕ} (e : ℕ) (x : Lexeme) → p0 ≤ x .from → x .from ≤ x .to → x .to ≤ n → Triple (Checks n) (On b c (open′ p0 e 0 0)) (label x) (λ _. On b 0 (shut p0 e))

@@ -15,7 +15,7 @@ use Rattle.names.specs.Names.{directives}
 use Rattle.rules.specs.Records.{Record, ST, LT}
 use Rattle.rules.specs.Reader.{Refusal, at, Answer, done, refused, Reader, Line, after, thence, _>>=_, _>>_, return, write, arrive, ahead, kind, passed, isLineEnd}
 use Rattle.rules.specs.Operands.{isWord}
-use Rattle.rules.specs.Statements.{Row, State, over, inLine, firstOf, enter, stepRow, nextRow, lineEnd, skip, skipLines, passing, rep, repne, instruction, constant, someData, dataOf, line, content, times, begun, statement}
+use Rattle.rules.specs.Statements.{Profile, Row, State, over, inLine, firstOf, enter, stepRow, nextRow, lineEnd, skip, skipLines, passing, rep, repne, instruction, constant, someData, dataOf, line, content, times, begun, statement}
 use Rattle.rules.proofs.Append.{after-nil}
 use Rattle.rules.specs.WellFormed.{Stack, stack, allow, toLine, complete, spans, given, checked}
 use Rattle.rules.specs.Patch.{statementFrom}
@@ -147,32 +147,32 @@ module _ (n hi p0 : ℕ) where
         (λ g. before (λ k s h. h .1 .1) (andThen lineEnd-on (λ _. checksS {κ′ = shut p0 e} _ refl (g .2)
         (rw (span-true n hi p0 [] (open′ p0 e 0 0) (x .from) t (place-open p0 e) u (le-trans v (g .0)) (g .1), lt-ltb 0 (suc (length ds)) (omega arith)) (to-line p0 0 0 e e zero-le (omega arith))))))
 
-    dataOf-on : {c : ℕ} (e width : ℕ) → Triple (Checks n) (OnS (x .to) c (open′ p0 e 0 0)) (dataOf x width) (λ _. OnS (x .to) 0 (shut p0 e))
+    dataOf-on : (takes : ℕ → ℕ → Bool) {c : ℕ} (e width : ℕ) → Triple (Checks n) (OnS (x .to) c (open′ p0 e 0 0)) (dataOf takes x width) (λ _. OnS (x .to) 0 (shut p0 e))
     unfolding dataOf
-    dataOf-on e width = askLeftS λ m. bind (inLines (λ rs. On n hi p0 (flat rs) (x .to) _ (open′ p0 e 0 0)) (λ rs ds. Data n hi p0 (flat rs) (x .to) (open′ p0 e 0 0) ds) (λ rs. literals-on n hi p0 (flat rs) (suc m) width)) λ ds. someData-on e ds
+    dataOf-on takes e width = askLeftS λ m. bind (inLines (λ rs. On n hi p0 (flat rs) (x .to) _ (open′ p0 e 0 0)) (λ rs ds. Data n hi p0 (flat rs) (x .to) (open′ p0 e 0 0) ds) (λ rs. literals-on n hi p0 (flat rs) takes (suc m) width)) λ ds. someData-on e ds
 
   passing-on : {b c : ℕ} {κ κ′ : Stack} {m : Reader State (Unit {0})} → Triple (Checks n) (OnS c 0 κ) m (λ _. OnS c 0 κ′) → Triple (Checks n) (OnS b c κ) (passing m) (λ _. OnS c 0 κ′)
   unfolding passing
   passing-on p = andThen (inOn (λ rest. nexts n hi p0 rest)) (λ _. p)
 
-  module _ (table : List ℕ) (proper : Proper table) where
+  module _ (profile : Profile) (proper : Proper (profile .table)) where
     -- A statement, and a content, with e expressions below.
     module _ {times′ : Reader State (Unit {0})} (nested : (b c e : ℕ) → Triple (Checks n) (OnS b c (open′ p0 e 0 0)) times′ (λ _. OnS c 0 (shut p0 e))) where
-      line-on : {b c : ℕ} (e : ℕ) → Triple (Checks n) (OnS b c (open′ p0 e 0 0)) (line table times′) (λ _. OnS c 0 (shut p0 e))
+      line-on : {b c : ℕ} (e : ℕ) → Triple (Checks n) (OnS b c (open′ p0 e 0 0)) (line profile times′) (λ _. OnS c 0 (shut p0 e))
       unfolding line
-      line-on e = aheadS λ x f. behind (λ _ k s h. on-less n hi p0 (flat (s .below)) (f .soon) (le-refl 0) h) (perhaps (operationIn table (x .kind))
+      line-on e = aheadS λ x f. behind (λ _ k s h. on-less n hi p0 (flat (s .below)) (f .soon) (le-refl 0) h) (perhaps (operationIn (profile .table) (x .kind))
           (perhaps (nameIn directives (x .kind))
           (whether (isWord (x .kind)) (λ _. passing-on (inOn (λ rest. label-on n hi p0 rest e x (f .start) (f .sound .ordered) (f .inside)))) (λ _. here-failsS 20))
           λ d _. whether (eqb d 0) (λ _. passing-on (constant-on x (f .start) (f .sound .ordered) (f .inside) e))
-          (λ _. whether (ltb d 3) (λ _. passing-on (dataOf-on x (f .start) (f .sound .ordered) (f .inside) e d)) (λ _. nested _ _ e)))
-          λ op h. passing-on (instruction-on x (f .start) (f .sound .ordered) (f .inside) e op (operation-small table proper (x .kind) op h)))
+          (λ _. whether (ltb d 3) (λ _. passing-on (dataOf-on x (f .start) (f .sound .ordered) (f .inside) (profile .takes) e d)) (λ _. nested _ _ e)))
+          λ op h. passing-on (instruction-on x (f .start) (f .sound .ordered) (f .inside) e op (operation-small (profile .table) proper (x .kind) op h)))
 
-      content-on : {b : ℕ} (e : ℕ) (x : Lexeme) → Triple (Checks n) (OnS b 0 (open′ p0 (suc e) 0 0)) (content table times′ x) (λ _. OnS b 0 (shut p0 e))
+      content-on : {b : ℕ} (e : ℕ) (x : Lexeme) → Triple (Checks n) (OnS b 0 (open′ p0 (suc e) 0 0)) (content profile times′ x) (λ _. OnS b 0 (shut p0 e))
       unfolding content checked statementFrom
       content-on {b} e x = kindS _ λ y f. behind (λ _ k s h. on-less n hi p0 (flat (s .below)) (le-trans (f .later) (f .sound .ordered)) (le-refl 0) h)
           (andThen (whether (isLineEnd (y .kind)) (λ _. refuses _) (λ _. line-on (suc e))) (λ _. checksS LT refl tt (closes-eq n p0 e)))
 
-    times-on : (m b c e : ℕ) → Triple (Checks n) (OnS b c (open′ p0 e 0 0)) (times table m) (λ _. OnS c 0 (shut p0 e))
+    times-on : (m b c e : ℕ) → Triple (Checks n) (OnS b c (open′ p0 e 0 0)) (times profile m) (λ _. OnS c 0 (shut p0 e))
     unfolding times
     times-on zero b c e = here-failsS 5
     times-on (suc m) b c e = aheadS λ x f. behind (λ _ k s h. on-less n hi p0 (flat (s .below)) (f .soon) (le-refl 0) h) (passing-on (andThen
@@ -224,12 +224,12 @@ module _ (n hi : ℕ) where
   stated-plain : {lo : ℕ} {κ : Stack} {p : Answer State Bool} → Stated lo κ p → Stated lo κ (after [] p)
   stated-plain {p = p} h = rw (after-nil p) h
 
-  module _ (table : List ℕ) (proper : Proper table) where
-    begun-stated : (lo : ℕ) (κ : Stack) (s : State) → Ready lo κ → OnS n hi 0 lo 0 κ κ s → Stated lo κ (begun table s)
+  module _ (profile : Profile) (proper : Proper (profile .table)) where
+    begun-stated : (lo : ℕ) (κ : Stack) (s : State) → Ready lo κ → OnS n hi 0 lo 0 κ κ s → Stated lo κ (begun profile s)
     unfolding begun inLine over ahead write return _>>=_ _>>_ thence
     begun-stated lo κ s y h = stated-plain (go (isLineEnd (s .line .here .kind)) refl)
       where
-        go : (o : Bool) → isLineEnd (s .line .here .kind) ≡ o → Stated lo κ (if_then_else_ {A = Reader State Bool} o (return false) (write (ST (s .line .here .from)) >> line table (times table 16) >> return true) s)
+        go : (o : Bool) → isLineEnd (s .line .here .kind) ≡ o → Stated lo κ (if_then_else_ {A = Reader State Bool} o (return false) (write (ST (s .line .here .from)) >> line profile (times profile 16) >> return true) s)
         go true e = ended
         go false e =
             let x : Lexeme = s .line .here in
@@ -237,14 +237,14 @@ module _ (n hi : ℕ) where
             let (i, j) = f .sound .strict e in
             started lo (x .from) (x .to) κ (open′ (x .from) 0 0 0) (f .later) (le-trans i j) i
             (starts κ (x .from) (y .done′) (le-trans (y .from′) (f .later)) (le-trans (f .sound .ordered) (f .inside)))
-            (line-on n hi (x .from) table proper (times-on n hi (x .from) table proper 16) {b = 0} {c = x .to} 0 .law (open′ (x .from) 0 0 0) s
+            (line-on n hi (x .from) profile proper (times-on n hi (x .from) profile proper 16) {b = 0} {c = x .to} 0 .law (open′ (x .from) 0 0 0) s
             (record { same = refl; low = zero-le; gap = h .gap; soon = le-refl (x .to); chain = (le-refl (x .from), h .chain .1, h .chain .2) }))
 
-    skips-stated : (lo : ℕ) (κ : Stack) → Ready lo κ → {p : Answer State (Unit {0})} → Skips lo κ p → Stated lo κ (thence p (λ _. begun table))
+    skips-stated : (lo : ℕ) (κ : Stack) → Ready lo κ → {p : Answer State (Unit {0})} → Skips lo κ p → Stated lo κ (thence p (λ _. begun profile))
     unfolding thence
     skips-stated lo κ y (skips {s} h) = stated-plain (begun-stated lo κ s y h)
     skips-stated lo κ y broke = failed
 
-    pub statement-stated : (lo : ℕ) (κ : Stack) (s : State) → Ready lo κ → OnS n hi 0 lo 0 κ κ s → Stated lo κ (statement table s)
+    pub statement-stated : (lo : ℕ) (κ : Stack) (s : State) → Ready lo κ → OnS n hi 0 lo 0 κ κ s → Stated lo κ (statement profile s)
     unfolding statement skipLines _>>=_ _>>_
     statement-stated lo κ s y h = skips-stated lo κ y (skip-skips lo κ (s .line) (s .below) h)

@@ -1,9 +1,8 @@
 -- The values of a listing: numbers are at most 2147483647, and a character is a byte.
 use mathlib.Core.List.{List, [], _∷_, _++_}
 use Prim.Native.Nat.{ℕ, _≤_}
-use Rattle.names.specs.Table.{operations}
 use Rattle.rules.specs.Records.{Record, VC}
-use Rattle.rules.specs.Statements.{reading}
+use Rattle.rules.specs.Statements.{present, reading}
 use Rattle.rules.specs.Claims.{ValuesFit}
 use Rattle.rules.proofs.Table.{proper}
 use Rattle.rules.proofs.Ranged.{Extras}
@@ -19,7 +18,7 @@ pub values-fit : ValuesFit
 unfolding reading
 values-fit = record {
   below = λ source room before behind f t v h.
-      let c : Accepted operations source (before ++ (VC f t v ∷ behind)) = accepted-call operations source room (before ++ (VC f t v ∷ behind)) h in
-      let (u, g) = accepts-run operations 0 source (before ++ (VC f t v ∷ behind)) (c .reads) in
-      value-small before behind f t v (gives-fits operations proper 0 source (before ++ (VC f t v ∷ behind)) u (c .small) g .extras);
+      let c : Accepted present source (before ++ (VC f t v ∷ behind)) = accepted-call present source room (before ++ (VC f t v ∷ behind)) h in
+      let (u, g) = accepts-run present 0 source (before ++ (VC f t v ∷ behind)) (c .reads) in
+      value-small before behind f t v (gives-fits present proper 0 source (before ++ (VC f t v ∷ behind)) u (c .small) g .extras);
 }

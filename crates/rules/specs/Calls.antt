@@ -13,7 +13,7 @@ use Rattle.lexer.specs.declared.TokenRead.the-variants.{Read, Refused}
 use Rattle.rules.specs.Lexemes.{tokensFrom}
 use Rattle.rules.specs.Records.{Record, listing}
 use Rattle.rules.specs.Reader.{Refusal, at, nowhere, Answer, done, refused, arrive}
-use Rattle.rules.specs.Statements.{Row, State, enter, rows, statement, Outcome, accepted, refusal, reading, openStatements}
+use Rattle.rules.specs.Statements.{Profile, Row, State, enter, rows, statement, Outcome, accepted, refusal, reading, openStatements}
 
 -- A call's answer: what it gives, or a refusal.
 pub data Result (A : Type 0) : Type 0 where
@@ -70,15 +70,15 @@ unfoldable pub listed : ℕ → Outcome → Result (List Record)
 listed room (accepted w) = inRoom room w w
 listed room (refusal r) = refuses r
 
-unfoldable pub fullRead : List ℕ → List ℕ → ℕ → Result (List Record)
-fullRead table source room = lent source (listed room (reading table source))
+unfoldable pub fullRead : Profile → List ℕ → ℕ → Result (List Record)
+fullRead profile source room = lent source (listed room (reading profile source))
 
 -- A listing is never longer than 18 times its source: a buffer of so many bytes is long enough.
 unfoldable pub enough : List ℕ → ℕ
 enough source = 18 * length source
 
-unfoldable pub fullBuffer : List ℕ → List ℕ → List ℕ → List ℕ
-fullBuffer table source buffer = leaves listing (fullRead table source (length buffer)) buffer
+unfoldable pub fullBuffer : Profile → List ℕ → List ℕ → List ℕ
+fullBuffer profile source buffer = leaves listing (fullRead profile source (length buffer)) buffer
 
 -- The statement read at a place, lent a listing buffer. It begins as the parser would at that place, with spans counted from byte 0, and
 -- gives that one statement's records, ST first, and the place of the token ahead, or answers that none is left and writes nothing.
@@ -91,19 +91,19 @@ oneFound room (done w true s) = inRoom room w (found w (s .line .here .from))
 oneFound room (done w false s) = gives nothing
 oneFound room (refused r) = refuses r
 
-unfoldable pub oneRead : List ℕ → List Row → Answer State Bool
-oneRead table [] = refused (nowhere 0)  -- no source has no row
-oneRead table (r ∷ rs) = arrive (r .first) (statement table (enter r rs))
+unfoldable pub oneRead : Profile → List Row → Answer State Bool
+oneRead profile [] = refused (nowhere 0)  -- no source has no row
+oneRead profile (r ∷ rs) = arrive (r .first) (statement profile (enter r rs))
 
-unfoldable pub statementCall : List ℕ → List ℕ → ℕ → ℕ → Result Found
-statementCall table source p room = lentAt source p (oneFound room (oneRead table (rows (tokensFrom p 0 (drop p source)))))
+unfoldable pub statementCall : Profile → List ℕ → ℕ → ℕ → Result Found
+statementCall profile source p room = lentAt source p (oneFound room (oneRead profile (rows (tokensFrom p 0 (drop p source)))))
 
 unfoldable pub foundBytes : Found → List ℕ
 foundBytes nothing = []
 foundBytes (found w p) = listing w
 
-unfoldable pub statementBuffer : List ℕ → List ℕ → ℕ → List ℕ → List ℕ
-statementBuffer table source p buffer = leaves foundBytes (statementCall table source p (length buffer)) buffer
+unfoldable pub statementBuffer : Profile → List ℕ → ℕ → List ℕ → List ℕ
+statementBuffer profile source p buffer = leaves foundBytes (statementCall profile source p (length buffer)) buffer
 
 unfoldable pub openCalls : Unit {0}
 unfolding openStatements unless mostBytes tooLong foreign ascii lent lentAt inRoom overwrite leaves tokenCall listed fullRead enough fullBuffer oneFound oneRead statementCall foundBytes statementBuffer

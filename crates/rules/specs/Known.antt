@@ -1,4 +1,4 @@
--- Document 01's samples of the rules, "Job file samples": K1 to K12 in one table with one claim, and the further ones.
+-- Document 01's samples of the rules, "Job file samples": K1 to K12 in one table with one claim, K5 as document 02 has it; and the further ones.
 use mathlib.Core.Path.{_≡_, refl}
 use mathlib.Core.List.{List, [], _∷_}
 use Prim.Native.Nat.{ℕ}
@@ -6,6 +6,7 @@ use Prim.Native.String.{String}
 use lib.IntN.{ℤ, pos, negsuc}
 use Rattle.lexer.specs.Text.{bytes}
 use Rattle.names.specs.Table.{operations, spellings, row, rowsOf}
+use Rattle.rules.specs.Statements.{present}
 use Rattle.rules.specs.Records.{Record, ST, VC, VL, VS, PF, IN, OR, OI, OF, OX, LL, LI, LD, LC, LT}
 use Rattle.rules.specs.Reader.{at, nowhere, encoding}
 use Rattle.rules.specs.Calls.{Result, gives, refuses, fullRead, enough, openCalls}
@@ -26,7 +27,7 @@ samples =
     ∷ "equ -1+2*3" reads gives (ST 0 ∷ VC 5 6 1 ∷ PF 4 6 1 ∷ VC 7 8 2 ∷ VC 9 10 3 ∷ IN 7 10 2 ∷ IN 4 10 0 ∷ LC 0 10 ∷ [])
     ∷ "equ 8/4/2" reads gives (ST 0 ∷ VC 4 5 8 ∷ VC 6 7 4 ∷ IN 4 7 3 ∷ VC 8 9 2 ∷ IN 4 9 3 ∷ LC 0 9 ∷ [])
     ∷ "equ $$" reads gives (ST 0 ∷ VS 4 5 ∷ LC 0 6 ∷ [])
-    ∷ "dw 70000" reads gives (ST 0 ∷ LD 0 8 (112 ∷ 17 ∷ []) ∷ [])
+    ∷ "dw 70000" reads refuses (at 60 3 8)
     ∷ "db ,," reads refuses (at 23 0 2)
     ∷ "jmp 1:2" reads gives (ST 0 ∷ VC 4 5 1 ∷ VC 6 7 2 ∷ OF 4 7 ∷ LI 0 7 59 1 4 7 ∷ [])
     ∷ "mov [ ax],bx" reads refuses (encoding 6 5 8 255)
@@ -37,7 +38,7 @@ samples =
     ∷ []
 
 unfoldable pub read : Sample → Result (List Record)
-read k = fullRead operations (bytes (k .source)) (enough (bytes (k .source)))
+read k = fullRead present (bytes (k .source)) (enough (bytes (k .source)))
 
 unfoldable pub wanted : Sample → Result (List Record)
 wanted k = k .answer
@@ -84,6 +85,34 @@ more =
 pub more-known : Agree more
 unfolding openCalls spellings row rowsOf operations more read wanted Agree
 more-known = (refl, (refl, (refl, (refl, (refl, (refl, (refl, (refl, (refl, (refl, (refl, (refl, (refl, (refl, (refl, (refl, (refl, (refl, (refl, (refl, (refl, (refl, tt))))))))))))))))))))))
+
+-- Numbers in data lines, document 02, Ask 1: the largest that fit and the first that don't (60), however they are written; 60 against what
+-- stands before the number and behind it; and numbers that are no data.
+unfoldable pub counts : List Sample
+counts =
+    "db 255" reads gives (ST 0 ∷ LD 0 6 (255 ∷ []) ∷ [])
+    ∷ "dw 65535" reads gives (ST 0 ∷ LD 0 8 (255 ∷ 255 ∷ []) ∷ [])
+    ∷ "db 256" reads refuses (at 60 3 6)
+    ∷ "dw 65536" reads refuses (at 60 3 8)
+    ∷ "DB 0x100" reads refuses (at 60 3 8)
+    ∷ "a: db 1,'x',100h" reads refuses (at 60 12 16)
+    ∷ "times 2 db 256" reads refuses (at 60 11 14)
+    ∷ "db 256,12b" reads refuses (at 60 3 6)
+    ∷ "db 256 0x80000000" reads refuses (at 60 3 6)
+    ∷ "db 256 'x" reads refuses (at 60 3 6)
+    ∷ "db 1,12b,256" reads refuses (at 30 5 8)
+    ∷ "db 0x80000000" reads refuses (at 31 3 13)
+    ∷ "db 2147483648" reads refuses (at 15 3 4)
+    ∷ "db 'x,256" reads refuses (at 26 3 9)
+    ∷ "db '',256" reads refuses (at 60 6 9)
+    ∷ "equ 70000" reads gives (ST 0 ∷ VC 4 9 70000 ∷ LC 0 9 ∷ [])
+    ∷ "times 70000 in db,256" reads gives (
+    ST 0 ∷ VC 6 11 70000 ∷ VL 15 17 ∷ OI 15 17 ∷ VC 18 21 256 ∷ OI 18 21 ∷ LI 12 21 4 2 15 21 ∷ LT ∷ [])
+    ∷ []
+
+pub counts-known : Agree counts
+unfolding openCalls spellings row rowsOf operations counts read wanted Agree
+counts-known = (refl, (refl, (refl, (refl, (refl, (refl, (refl, (refl, (refl, (refl, (refl, (refl, (refl, (refl, (refl, (refl, (refl, tt)))))))))))))))))
 
 -- Samples of `evaluate`: an operator's number, two numbers, the answer.
 pub record Evaluation : Type 0 where

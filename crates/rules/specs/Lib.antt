@@ -12,3 +12,4 @@ pub mod Patch
 pub mod Known
 pub mod Grammar
 pub mod Claims
+pub mod Data

@@ -10,7 +10,7 @@ use Rattle.lexer.specs.Tokens.{inComment}
 use Rattle.rules.specs.Lexemes.{Lexeme, tokensFrom}
 use Rattle.rules.specs.Records.{Record, ST, VC, VL, VI, VS, PF, IN, OR, OS, OI, OF, OD, OX, LL, LI, LD, LC, LT, moveRecord, listing}
 use Rattle.rules.specs.Reader.{nowhere, valuesOf, isLineEnd}
-use Rattle.rules.specs.Statements.{Outcome, accepted, refusal, readFrom}
+use Rattle.rules.specs.Statements.{Profile, Outcome, accepted, refusal, readFrom}
 use Rattle.rules.specs.Calls.{Result, gives, refuses, unless, tooLong, ascii, fullRead, enough, inRoom, leaves, openCalls}
 use Rattle.rules.specs.Decode.{decode, openDecode}
 use Rattle.rules.specs.WellFormed.{wellFormed, openWellFormed}
@@ -56,13 +56,13 @@ unfoldable pub isOpen : Result (List Record) → Bool
 isOpen (gives w) = false
 isOpen (refuses r) = eqb (valuesOf r .number) 34
 
-unfoldable pub leavesOpen : List ℕ → List ℕ → Bool
-leavesOpen table l = isOpen (fullRead table l (enough l))
+unfoldable pub leavesOpen : Profile → List ℕ → Bool
+leavesOpen profile l = isOpen (fullRead profile l (enough l))
 
 -- 40: the replaced line, the new one, or the nearest line above that holds more than blanks and a comment leaves a `times` open.
-unfoldable pub openLine : List ℕ → List ℕ → ℕ → List ℕ → Bool
-openLine table s a new =
-    leavesOpen table (lineAt s a) || (leavesOpen table new || maybe (nearest (linesFrom [] (above s a))) false (leavesOpen table))
+unfoldable pub openLine : Profile → List ℕ → ℕ → List ℕ → Bool
+openLine profile s a new =
+    leavesOpen profile (lineAt s a) || (leavesOpen profile new || maybe (nearest (linesFrom [] (above s a))) false (leavesOpen profile))
 
 -- The records of the statements with place below a, and those from the first statement with place a or above on.
 unfoldable pub statementFrom : ℕ → Record → Bool
@@ -112,21 +112,21 @@ reread s rs a new roomS roomL (accepted w) = placedIn roomS roomL (edited s a ne
 reread s rs a new roomS roomL (refusal r) = refuses r
 
 -- 41, then 40; then only the new line, with its line feed, is read, in its place.
-unfoldable pub patched : List ℕ → List ℕ → Option (List Record) → ℕ → List ℕ → ℕ → ℕ → Result Edit
-patched table s none a new roomS roomL = refuses (nowhere 41)
-patched table s (some rs) a new roomS roomL =
+unfoldable pub patched : Profile → List ℕ → Option (List Record) → ℕ → List ℕ → ℕ → ℕ → Result Edit
+patched profile s none a new roomS roomL = refuses (nowhere 41)
+patched profile s (some rs) a new roomS roomL =
     unless (not (wellFormed (length s) rs)) (nowhere 41)
-    (unless (openLine table s a new) (nowhere 40)
-    (reread s rs a new roomS roomL (readFrom table a (new ++ take 1 (behind s a)))))
+    (unless (openLine profile s a new) (nowhere 40)
+    (reread s rs a new roomS roomL (readFrom profile a (new ++ take 1 (behind s a)))))
 
 -- Order: 42, 43, 1, 2, 41, 40, then reading in source order, 6, 4. The rooms are the lengths of the two lent buffers.
-unfoldable pub patch : (table old bytes : List ℕ) (a : ℕ) (new : List ℕ) (roomS roomL : ℕ) → Result Edit
-patch table old bytes a new roomS roomL =
+unfoldable pub patch : (profile : Profile) (old bytes : List ℕ) (a : ℕ) (new : List ℕ) (roomS roomL : ℕ) → Result Edit
+patch profile old bytes a new roomS roomL =
     unless (not (beginsLine old a)) (nowhere 42)
     (unless (among 10 new) (nowhere 43)
     (unless (tooLong old || tooLong (edited old a new)) (nowhere 1)
     (ascii (edited old a new)
-    (patched table old (decode bytes) a new roomS roomL))))
+    (patched profile old (decode bytes) a new roomS roomL))))
 
 -- The buffers afterwards, from the answer: the one for the source, the one for the listing.
 unfoldable pub patchSource : Result Edit → List ℕ → List ℕ

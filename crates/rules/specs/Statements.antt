@@ -2,15 +2,41 @@
 use mathlib.Core.Bool.{Bool, true, false, _||_}
 use mathlib.Core.List.{List, [], _∷_, _++_}
 use Prim.Native.Nat.{ℕ, zero, suc, _+_}
-use lib.Dec.{eqb, ltb}
+use lib.Dec.{eqb, leb, ltb}
 use lib.ListN.{length, take}
 use Rattle.lexer.specs.Text.{if_then_else_, maybe, is}
 use Rattle.rules.specs.Lexemes.{Kind, word, number, quoted, mark, newline, blank, comment, invalid, end, bad, Lexeme, tokensFrom, nameIn, operationIn}
 use Rattle.names.specs.Names.{directives}
+use Rattle.names.specs.Table.{operations}
 use Rattle.rules.specs.Records.{Record, ST, LL, LI, LD, LC, LT, field, openRecords}
 use Rattle.rules.specs.Reader.{Reader, Answer, done, refused, Line, Refusal, at, nowhere, _>>=_, _>>_, return, write, refuse, arrive, next, ahead, kind, passed, left, refuseHere, isMark, isLineEnd}
 use Rattle.rules.specs.Expressions.{expression}
 use Rattle.rules.specs.Operands.{operands, isWord, openOperands}
+
+-- What a reading is told: its table of operations, and which numbers it takes in a data line, by how many bytes a number has there.
+pub record Profile : Type 0 where
+  pub table : List ℕ
+  pub takes : ℕ → ℕ → Bool
+
+-- The largest number that a data line's word takes: `db` gives a number one byte, `dw` two. Document 02, Ask 1: in `db` a number above 255, and
+-- in `dw` a number above 65,535, must be refused.
+unfoldable pub largest : ℕ → ℕ
+largest width = if eqb width 1 then 255 else 65535
+
+unfoldable pub fits : ℕ → ℕ → Bool
+fits width v = leb v (largest width)
+
+-- The reading by a table, and by the table of the names.
+abbrev pub fitting : List ℕ → Profile
+fitting table = record { table = table; takes = fits }
+
+abbrev pub present : Profile
+present = fitting operations
+
+-- The reading of document 01 alone, and of the Rust: any number is taken, and its low bytes are kept. No call reads so; it is here to be
+-- compared with (Data: OnlyTooWide).
+abbrev pub cutting : List ℕ → Profile
+cutting table = record { table = table; takes = λ width v. true }
 
 -- The rows of a source: its tokens up to and with each line end.
 pub record Row : Type 0 where
@@ -106,24 +132,27 @@ constant x = do
   lineEnd
   write (LC (x .from) t)
 
--- `db` and `dw` take literals, commas optional; strings give one byte a character, numbers their low one or two bytes, low first. The
--- literals go to the line's end; there are at most n, and the n of `dataOf` never runs out (Claims: CountersSuffice); a number has `width`
--- bytes.
-unfoldable pub literalOf : Kind → ℕ → Reader Line (List ℕ) → Reader Line (List ℕ)
-literalOf newline width others = return []
-literalOf end width others = return []
-literalOf (mark c) width others = if is "," c then (next >> others) else (refuseHere 15)
-literalOf (quoted closed s) width others = if closed then (next >> others >>= λ ds. return (s ++ ds)) else (refuseHere 26)
-literalOf (number v) width others = next >> others >>= λ ds. return (take width (field v) ++ ds)
-literalOf (word w) width others = refuseHere 15
-literalOf blank width others = refuseHere 15
-literalOf comment width others = refuseHere 15
-literalOf invalid width others = refuseHere 15
-literalOf (bad r) width others = refuseHere 15
+-- The numbers that are taken in a data line are those of a test.
+module _ (takes : ℕ → ℕ → Bool) where
+  -- `db` and `dw` take literals, commas optional; strings give one byte a character, numbers their low one or two bytes, low first. The
+  -- literals go to the line's end; there are at most n, and the n of `dataOf` never runs out (Claims: CountersSuffice); a number has `width`
+  -- bytes. 60: number too wide for its data word, span the number; it comes when that literal is taken, before any later token is read.
+  unfoldable pub literalOf : Kind → ℕ → Reader Line (List ℕ) → Reader Line (List ℕ)
+  literalOf newline width others = return []
+  literalOf end width others = return []
+  literalOf (mark c) width others = if is "," c then (next >> others) else (refuseHere 15)
+  literalOf (quoted closed s) width others = if closed then (next >> others >>= λ ds. return (s ++ ds)) else (refuseHere 26)
+  literalOf (number v) width others =
+      if takes width v then (next >> others >>= λ ds. return (take width (field v) ++ ds)) else (refuseHere 60)
+  literalOf (word w) width others = refuseHere 15
+  literalOf blank width others = refuseHere 15
+  literalOf comment width others = refuseHere 15
+  literalOf invalid width others = refuseHere 15
+  literalOf (bad r) width others = refuseHere 15
 
-unfoldable pub literals : ℕ → ℕ → Reader Line (List ℕ)
-literals zero width = return []
-literals (suc n) width = kind >>= λ k. literalOf k width (literals n width)
+  unfoldable pub literals : ℕ → ℕ → Reader Line (List ℕ)
+  literals zero width = return []
+  literals (suc n) width = kind >>= λ k. literalOf k width (literals n width)
 
 -- `db` or `dw` without data is 23, at the word x.
 unfoldable pub someData : Lexeme → List ℕ → Reader State (Unit {0})
@@ -133,10 +162,10 @@ someData x (b ∷ bs) = do
   lineEnd
   write (LD (x .from) t (b ∷ bs))
 
-unfoldable pub dataOf : Lexeme → ℕ → Reader State (Unit {0})
-dataOf x width = do
+unfoldable pub dataOf : (ℕ → ℕ → Bool) → Lexeme → ℕ → Reader State (Unit {0})
+dataOf takes x width = do
   n ← inLine left
-  ds ← inLine (literals (suc n) width)
+  ds ← inLine (literals takes (suc n) width)
   someData x ds
 
 -- What a reading comes to: the records, or the first refusal.
@@ -148,17 +177,16 @@ unfoldable pub outcome : Answer State (Unit {0}) → Outcome
 outcome (done w a s) = accepted w
 outcome (refused r) = refusal r
 
--- The operations are those of a table.
-module _ (table : List ℕ) where
+module _ (profile : Profile) where
   -- A statement whose first token is ahead; `times` reads one that begins with that word. A word that is neither an operation nor a directive
   -- becomes a label; without a word it is 20.
   unfoldable pub line : Reader State (Unit {0}) → Reader State (Unit {0})
   line times = do
     x ← inLine ahead
-    maybe (operationIn table (x .kind))
+    maybe (operationIn (profile .table) (x .kind))
         (maybe (nameIn directives (x .kind))
         (if isWord (x .kind) then (passing (inLine (label x))) else (inLine (refuseHere 20)))
-        λ n. if eqb n 0 then (passing (constant x)) else if ltb n 3 then (passing (dataOf x n)) else times)
+        λ n. if eqb n 0 then (passing (constant x)) else if ltb n 3 then (passing (dataOf (profile .takes) x n)) else times)
         λ op. passing (instruction x op)
 
   -- The content of a `times`, whose word was x; 34, at that word, where there is none.
@@ -205,5 +233,5 @@ module _ (table : List ℕ) where
   reading source = readFrom 0 source
 
 unfoldable pub openStatements : Unit {0}
-unfolding openOperands push rows over inLine firstOf enter stepRow nextRow lineEnd skip skipLines passing label instruction constant literalOf literals someData dataOf line content times begun statement statements outcome readRows readFrom reading openRecords
+unfolding openOperands largest fits push rows over inLine firstOf enter stepRow nextRow lineEnd skip skipLines passing label instruction constant literalOf literals someData dataOf line content times begun statement statements outcome readRows readFrom reading openRecords
 openStatements = tt

@@ -1,9 +1,10 @@
-//! Writes the recorded reads as rows over the rules' definitions: a crate of specs whose claims the checker computes.
+//! Writes the recorded reads, and the samples of the rules, as rows over the rules' definitions: a crate of specs whose claims the checker computes.
 //! Argument: the folder of that crate.
-use differential::recorded;
+use differential::{recorded, samples};
 use std::{env, fmt::Write, fs, path::Path};
 
 const ROWS: usize = 40; // in a module
+const LONG: usize = 1000; // no sample of so many bytes is computed
 
 fn list<T: std::fmt::Display>(items: impl IntoIterator<Item = T>) -> String {
     let mut text = String::from("(");
@@ -40,8 +41,10 @@ fn answer(text: &str) -> String {
 fn main() {
     let folder = env::args().nth(1).expect("the folder of the crate");
     let folder = Path::new(&folder);
-    let rows: Vec<String> =
-        recorded::entries(recorded::READS).map(|(source, said)| format!("row {} ({})", list(source), answer(said))).collect();
+    let row = |source: Vec<u8>, said: &str| format!("row {} ({})", list(source), answer(said));
+    let mut rows: Vec<String> = recorded::entries(recorded::READS).map(|(source, said)| row(source, said)).collect();
+    let samples = samples::samples();
+    rows.extend(samples.into_iter().filter(|(source, _)| source.len() < LONG).map(|(source, said)| row(source, &said)));
     fs::create_dir_all(folder.join("specs")).unwrap();
     fs::create_dir_all(folder.join("src")).unwrap();
     fs::write(folder.join("src/lib.rt"), "// The recorded reads, computed by the definitions.\n").unwrap();
@@ -56,6 +59,7 @@ use Prim.Native.Nat.{{ℕ}}
 use Rattle.names.specs.Table.{{operations, spellings, row as tableRow, rowsOf}}
 use Rattle.rules.specs.Records.{{Record, ST, VC, VL, VI, VS, PF, IN, OR, OS, OI, OF, OD, OX, LL, LI, LD, LC, LT}}
 use Rattle.rules.specs.Reader.{{at, nowhere, encoding}}
+use Rattle.rules.specs.Statements.{{present}}
 use Rattle.rules.specs.Calls.{{Result, gives, refuses, fullRead, openCalls}}
 
 pub record Row : Type 0 where
@@ -72,7 +76,7 @@ rows =
 
 unfoldable pub Agree : List Row → Type 0
 Agree [] = Unit {{0}}
-Agree (r ∷ rs) = (fullRead operations (r .source) 1000000 ≡ r .answer) × Agree rs
+Agree (r ∷ rs) = (fullRead present (r .source) 1000000 ≡ r .answer) × Agree rs
 
 pub agree : Agree rows
 unfolding openCalls spellings tableRow rowsOf operations rows Agree
@@ -83,5 +87,5 @@ agree = {claims}
         fs::write(folder.join(format!("specs/Rows{k}.antt")), text).unwrap();
     }
     fs::write(folder.join("specs/Lib.antt"), root).unwrap();
-    println!("{} recorded reads", rows.len());
+    println!("{} recorded reads and samples", rows.len());
 }

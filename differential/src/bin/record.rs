@@ -1,8 +1,9 @@
-//! Writes the recorded answers from the original: `cargo run --release --bin record`, in this folder.
+//! Writes the recorded answers from the original: `cargo run --release --bin record`, in this folder. Sources on which a request parts from
+//! the original are left out; the limits 3 and 5 are the model's.
 #[cfg(original)]
 fn main() {
-    use differential::recorded::{escaped, names_of, read_of, read_sources, token_sources, tokens_of};
-    use differential::{limits, original, words};
+    use differential::recorded::{escaped, from_original, names_of, read_of, read_sources, token_sources, tokens_of};
+    use differential::{original, words};
     use std::fs::write;
 
     let mut list = String::new();
@@ -13,7 +14,7 @@ fn main() {
     write("recorded/tokens.txt", list).unwrap();
 
     let mut list = String::new();
-    for word in words::spellings().into_iter().chain(words::OTHERS) {
+    for word in words::original_spellings().into_iter().chain(words::OTHERS) {
         for word in [word.to_string(), word.to_uppercase(), format!("{word}x"), word[1..].to_string()] {
             let said = names_of(word.as_bytes(), &mut |w| words::original(std::str::from_utf8(w).unwrap()));
             list += &format!("{}\t{said}\n", escaped(word.as_bytes()));
@@ -23,7 +24,9 @@ fn main() {
 
     let mut list = String::new();
     for source in read_sources() {
-        list += &format!("{}\t{}\n", escaped(&source), read_of(&limits::read(&source)));
+        if let Some(answer) = from_original(&source) {
+            list += &format!("{}\t{}\n", escaped(&source), read_of(&answer));
+        }
     }
     write("recorded/reads.txt", list).unwrap();
 }

@@ -3,9 +3,8 @@
 use mathlib.Core.Path.{_≡_, refl, sym, ap, subst, _∙_}
 use denote.Ref.{now}
 use lib.ListN.{length}
-use Rattle.names.specs.Table.{operations}
 use Rattle.rules.specs.Calls.{listed}
-use Rattle.rules.specs.Statements.{reading}
+use Rattle.rules.specs.Statements.{present, reading}
 use Rattle.reader.proofs.Lending.{lent-refused, lent-accepted}
 use Rattle.reader.proofs.FullReads.{call-answer, call-buffer, call-denied, buffer-denied, is-well-written, small}
 use borrow.Author.Needs.{needs}
@@ -26,16 +25,16 @@ enum-told : tie.Need-enum-told
 enum-told c = search needs
 
 read-all-requires : tie.Need-read-all-requires
-read-all-requires c κs = let a = (lent-accepted (now (c .before .before .before .before .before .before .args .source)) (listed (length (now (c .before .before .before .before .before .before .args .out))) (reading operations (now (c .before .before .before .before .before .before .args .source)))) (sym (c .before .enum-told .given .1) ∙ c .before .before .before .readable .ensures)) in (a .1, a .2)
+read-all-requires c κs = let a = (lent-accepted (now (c .before .before .before .before .before .before .args .source)) (listed (length (now (c .before .before .before .before .before .before .args .out))) (reading present (now (c .before .before .before .before .before .before .args .source)))) (sym (c .before .enum-told .given .1) ∙ c .before .before .before .readable .ensures)) in (a .1, a .2)
 
 returns : tie.Need-returns
-returns c = let d = (lent-refused (now (c .before .before .before .before .before .before .args .source)) (listed (length (now (c .before .before .before .before .before .before .args .out))) (reading operations (now (c .before .before .before .before .before .before .args .source)))) (sym (c .before .r .given .1) ∙ c .before .before .before .readable .ensures)) in (call-denied (now (c .before .before .before .before .before .before .args .source)) (now (c .before .before .before .before .before .before .args .out)) d, (buffer-denied (now (c .before .before .before .before .before .before .args .source)) (now (c .before .before .before .before .before .before .args .out)) d, record { so = tt }))
+returns c = let d = (lent-refused (now (c .before .before .before .before .before .before .args .source)) (listed (length (now (c .before .before .before .before .before .before .args .out))) (reading present (now (c .before .before .before .before .before .before .args .source)))) (sym (c .before .r .given .1) ∙ c .before .before .before .readable .ensures)) in (call-denied (now (c .before .before .before .before .before .before .args .source)) (now (c .before .before .before .before .before .before .args .out)) d, (buffer-denied (now (c .before .before .before .before .before .before .args .source)) (now (c .before .before .before .before .before .before .args .out)) d, record { so = tt }))
 
 same-length : tie.Need-same-length
 same-length c = search needs
 
 returns-2 : tie.Need-returns-2
-returns-2 c = let a = (lent-accepted (now (c .before .before .before .before .before .before .before .before .before .args .source)) (listed (length (now (c .before .before .before .before .before .before .before .before .before .args .out))) (reading operations (now (c .before .before .before .before .before .before .before .before .before .args .source)))) (sym (c .before .before .before .before .enum-told .given .1) ∙ c .before .before .before .before .before .before .readable .ensures)) in (call-answer _ _ _ (a .0) (c .before .before .read-all .ensures), (call-buffer _ _ _ (a .0) (c .before .before .read-all .ensures), is-well-written _ _ _ (small _ (a .2)) (a .1) (c .before .before .read-all .ensures)))
+returns-2 c = let a = (lent-accepted (now (c .before .before .before .before .before .before .before .before .before .args .source)) (listed (length (now (c .before .before .before .before .before .before .before .before .before .args .out))) (reading present (now (c .before .before .before .before .before .before .before .before .before .args .source)))) (sym (c .before .before .before .before .enum-told .given .1) ∙ c .before .before .before .before .before .before .readable .ensures)) in (call-answer _ _ _ (a .0) (c .before .before .read-all .ensures), (call-buffer _ _ _ (a .0) (c .before .before .read-all .ensures), is-well-written _ _ _ (small _ (a .2)) (a .1) (c .before .before .read-all .ensures)))
 
 pub full-read-spec : {M : Type 1} → statement M
 full-read-spec =

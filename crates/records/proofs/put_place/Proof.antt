@@ -8,10 +8,10 @@ use Rattle.records.proofs.put_place.Tie as tie
 use Rattle.records.proofs.put_place.Reads as reads
 use Rattle.records.proofs.put_place.Lts as lts
 use Rattle.records.proofs.put_field.Reads as put-field-reads
-use Rattle.records.proofs.put_mark.Reads as put-mark-reads
+use Rattle.records.proofs.put_two.Reads as put-two-reads
 
-put-mark-requires : tie.Need-put-mark-requires
-put-mark-requires c κs = search needs
+put-two-requires : tie.Need-put-two-requires
+put-two-requires c κs = search needs
 
 put-field-requires : tie.Need-put-field-requires
 put-field-requires c κs = search needs
@@ -21,7 +21,7 @@ same-length c = search needs
 
 returns : tie.Need-returns
 unfolding field fields
-returns c = follows _ _ (c .before .before .before .before .before .before .put-mark .ensures) (c .before .before .put-field .ensures)
+returns c = follows _ _ (c .before .before .before .before .before .before .put-two .ensures) (c .before .before .put-field .ensures)
 
 pub put-place-spec : {M : Type 1} → statement M
-put-place-spec = tie.close (tie.spec put-mark-requires put-field-requires same-length returns)
+put-place-spec = tie.close (tie.spec put-two-requires put-field-requires same-length returns)

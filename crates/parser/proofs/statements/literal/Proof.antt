@@ -1,7 +1,7 @@
 -- Each byte of a kind is the literal that the rules say.
 -- Assumes nothing.
 use borrow.Author.Tests.{ne-eqb}
-use Rattle.parser.proofs.StatementsData.{is-comma, is-number, is-string, is-open, is-other}
+use Rattle.parser.proofs.StatementsData.{is-comma, is-string, is-open, is-other}
 use borrow.Author.Needs.{needs}
 use Rattle.parser.proofs.statements.literal.Statement.{statement}
 use Rattle.parser.proofs.statements.literal.Tie as tie
@@ -9,20 +9,20 @@ use Rattle.parser.proofs.statements.literal.Reads as reads
 use Rattle.parser.proofs.statements.literal.Lts as lts
 use Rattle.parser.proofs.state.refuse_here.Reads as refuse-here-reads
 use Rattle.parser.proofs.state.text.Reads as text-reads
+use Rattle.parser.proofs.statements.number.Reads as number-reads
 use Rattle.parser.proofs.statements.put_characters.Reads as put-characters-reads
-use Rattle.parser.proofs.statements.put_number.Reads as put-number-reads
 
 returns : tie.Need-returns
 returns c = record { so = is-comma _ _ _ _ _ (c .if1 .taken) }
 
-put-number-requires : tie.Need-put-number-requires
-put-number-requires c κs = search needs
+number-requires : tie.Need-number-requires
+number-requires c κs = search needs
 
 same-length : tie.Need-same-length
 same-length c = search needs
 
 returns-2 : tie.Need-returns-2
-returns-2 c = record { so = is-number _ _ _ (c .before .before .before .before .if2 .taken) (c .before .before .before .before .before .before .before .before .pre .2) (c .before .before .put-number .ensures) }
+returns-2 c = search needs
 
 text-requires : tie.Need-text-requires
 text-requires c κs = search needs
@@ -53,7 +53,7 @@ literal-spec =
     tie.close
     (tie.spec
     returns
-    put-number-requires
+    number-requires
     same-length
     returns-2
     text-requires

@@ -1,6 +1,8 @@
 -- The invariant: the bytes so far are written, and stand in front of those of the literals from here on. Each literal leaves fewer tokens.
 -- Assumes nothing.
-use mathlib.Core.Path.{sym, subst, _∙_}
+use mathlib.Core.Path.{sym, ap, subst, _∙_}
+use Prim.Native.Nat.{ℕ}
+use lib.Dec.{eqb}
 use native.Mathlib.Omega.{arith}
 use borrow.Author.Needs.{needs}
 use lib.ListN.{length}
@@ -8,7 +10,7 @@ use Rattle.parser.specs.Views.{lineOf, Passes}
 use Rattle.parser.specs.Statements.{ReadsLiteral}
 use Rattle.parser.proofs.Flat.{or-false}
 use Rattle.parser.proofs.StatementsLines.{inside, inside-falls}
-use Rattle.parser.proofs.StatementsData.{Front, front-starts, front-ends, front-refused, front-turns, front-stops}
+use Rattle.parser.proofs.StatementsData.{Front, front-starts, front-ends, front-refused, front-turns, front-stops, comma-inside, comma-turns, comma-stops}
 use Rattle.parser.proofs.statements.literals.Statement.{statement}
 use Rattle.parser.proofs.statements.literals.Tie as tie
 use Rattle.parser.proofs.statements.literals.Reads as reads
@@ -65,11 +67,47 @@ returns-3 c = record { so = front-stops (c .before .before .before .before .befo
 enum-known-after : tie.Need-enum-known-after Inv-loop μ-loop
 enum-known-after c = search needs
 
+next-requires-2 : tie.Need-next-requires-2 Inv-loop μ-loop
+next-requires-2 c κs = (c .before .before .before .before .before .before .before .before .before .before .before .before .before .before .before .before .before .before .pre .0, ap (λ (k : ℕ). eqb k 10) (c .if2 .taken), ap (λ (k : ℕ). eqb k 0) (c .if2 .taken))
+
+enum-known-r-3 : tie.Need-enum-known-r-3 Inv-loop μ-loop
+enum-known-r-3 c = search needs
+
+same-length-4 : tie.Need-same-length-4 Inv-loop μ-loop
+same-length-4 c = c .before .before .before .before .before .before .before .before .before .before .before .before .before .before .before .literal .kept .1 .0 ∙ c .before .before .before .before .before .before .before .before .before .before .before .before .before .before .before .before .before .before .before .loop .inv .wrote .long
+
+returns-4 : tie.Need-returns-4 Inv-loop μ-loop
+returns-4 c =
+    let f = or-false _ _ (sym (c .before .before .before .before .before .before .before .before .before .before .before .before .before .before .before .before .before .before .is-line-end .ensures) ∙ c .before .before .before .before .before .before .before .before .before .before .before .before .before .before .before .before .before .if1 .left) in
+    record { so = comma-stops (front-turns (c .before .before .before .before .before .before .before .before .before .before .before .before .before .before .before .before .before .before .before .loop .inv) ((subst (ReadsLiteral _ _ _ _ _ _) (c .before .before .before .before .before .before .before .before .before .before .before .n .given .1) (c .before .before .before .before .before .before .before .before .before .before .before .before .before .before .before .literal .ensures)) .so) (inside _ (c .before .before .before .before .before .before .before .before .before .before .before .before .before .before .before .before .before .before .before .loop .q) (f .0) (f .1)) ((subst (Passes _ _ _ _) (c .before .before .before .before .before .before .before .after .given .1) (c .before .before .before .before .before .before .before .before .before .next .ensures)) .so)) (c .before .before .before .before .if2 .taken) ((subst (Passes _ _ _ _) (c .before .r3 .given .1) (c .before .before .before .next2 .ensures)) .so) }
+
+enum-known-behind : tie.Need-enum-known-behind Inv-loop μ-loop
+enum-known-behind c = search needs
+
 loop-less : tie.Need-loop-less Inv-loop μ-loop
-loop-less c = let f = or-false _ _ (sym (c .before .before .before .before .before .before .before .before .before .before .before .before .is-line-end .ensures) ∙ c .before .before .before .before .before .before .before .before .before .before .before .if1 .left) in omega (arith, inside-falls _ (c .before .before .before .before .before .before .before .before .before .before .before .before .before .loop .q) (inside _ (c .before .before .before .before .before .before .before .before .before .before .before .before .before .loop .q) (f .0) (f .1)) _ ((subst (Passes _ _ _ _) (c .before .after .given .1) (c .before .before .before .next .ensures)) .so))
+loop-less c =
+    let f = or-false _ _ (sym (c .before .before .before .before .before .before .before .before .before .before .before .before .before .before .before .before .before .before .is-line-end .ensures) ∙ c .before .before .before .before .before .before .before .before .before .before .before .before .before .before .before .before .before .if1 .left) in
+    let so = front-turns (c .before .before .before .before .before .before .before .before .before .before .before .before .before .before .before .before .before .before .before .loop .inv) ((subst (ReadsLiteral _ _ _ _ _ _) (c .before .before .before .before .before .before .before .before .before .before .before .n .given .1) (c .before .before .before .before .before .before .before .before .before .before .before .before .before .before .before .literal .ensures)) .so) (inside _ (c .before .before .before .before .before .before .before .before .before .before .before .before .before .before .before .before .before .before .before .loop .q) (f .0) (f .1)) ((subst (Passes _ _ _ _) (c .before .before .before .before .before .before .before .after .given .1) (c .before .before .before .before .before .before .before .before .before .next .ensures)) .so) in
+    omega (
+      arith,
+      inside-falls _ (c .before .before .before .before .before .before .before .before .before .before .before .before .before .before .before .before .before .before .before .loop .q) (inside _ (c .before .before .before .before .before .before .before .before .before .before .before .before .before .before .before .before .before .before .before .loop .q) (f .0) (f .1)) _ ((subst (Passes _ _ _ _) (c .before .before .before .before .before .before .before .after .given .1) (c .before .before .before .before .before .before .before .before .before .next .ensures)) .so),
+      inside-falls _ _ (comma-inside so (c .before .before .before .before .if2 .taken)) _ ((subst (Passes _ _ _ _) (c .before .behind .given .1) (c .before .before .before .next2 .ensures)) .so),
+    )
 
 loop-again : tie.Need-loop-again Inv-loop μ-loop
-loop-again c = let f = or-false _ _ (sym (c .before .before .before .before .before .before .before .before .before .before .before .before .is-line-end .ensures) ∙ c .before .before .before .before .before .before .before .before .before .before .before .if1 .left) in front-turns (c .before .before .before .before .before .before .before .before .before .before .before .before .before .loop .inv) ((subst (ReadsLiteral _ _ _ _ _ _) (c .before .before .before .before .before .n .given .1) (c .before .before .before .before .before .before .before .before .before .literal .ensures)) .so) (inside _ (c .before .before .before .before .before .before .before .before .before .before .before .before .before .loop .q) (f .0) (f .1)) ((subst (Passes _ _ _ _) (c .before .after .given .1) (c .before .before .before .next .ensures)) .so)
+loop-again c =
+    let f = or-false _ _ (sym (c .before .before .before .before .before .before .before .before .before .before .before .before .before .before .before .before .before .before .is-line-end .ensures) ∙ c .before .before .before .before .before .before .before .before .before .before .before .before .before .before .before .before .before .if1 .left) in
+    comma-turns (front-turns (c .before .before .before .before .before .before .before .before .before .before .before .before .before .before .before .before .before .before .before .loop .inv) ((subst (ReadsLiteral _ _ _ _ _ _) (c .before .before .before .before .before .before .before .before .before .before .before .n .given .1) (c .before .before .before .before .before .before .before .before .before .before .before .before .before .before .before .literal .ensures)) .so) (inside _ (c .before .before .before .before .before .before .before .before .before .before .before .before .before .before .before .before .before .before .before .loop .q) (f .0) (f .1)) ((subst (Passes _ _ _ _) (c .before .before .before .before .before .before .before .after .given .1) (c .before .before .before .before .before .before .before .before .before .next .ensures)) .so)) (c .before .before .before .before .if2 .taken) ((subst (Passes _ _ _ _) (c .before .behind .given .1) (c .before .before .before .next2 .ensures)) .so)
+
+loop-less-2 : tie.Need-loop-less-2 Inv-loop μ-loop
+loop-less-2 c =
+    let f = or-false _ _ (sym (c .before .before .before .before .before .before .before .before .before .before .before .before .before .before .is-line-end .ensures) ∙ c .before .before .before .before .before .before .before .before .before .before .before .before .before .if1 .left) in
+    omega (arith, inside-falls _ (c .before .before .before .before .before .before .before .before .before .before .before .before .before .before .before .loop .q) (inside _ (c .before .before .before .before .before .before .before .before .before .before .before .before .before .before .before .loop .q) (f .0) (f .1)) _ ((subst (Passes _ _ _ _) (c .before .before .before .after .given .1) (c .before .before .before .before .before .next .ensures)) .so))
+
+loop-again-2 : tie.Need-loop-again-2 Inv-loop μ-loop
+loop-again-2 c =
+    let f = or-false _ _ (sym (c .before .before .before .before .before .before .before .before .before .before .before .before .before .before .is-line-end .ensures) ∙ c .before .before .before .before .before .before .before .before .before .before .before .before .before .if1 .left) in
+    front-turns (c .before .before .before .before .before .before .before .before .before .before .before .before .before .before .before .loop .inv) ((subst (ReadsLiteral _ _ _ _ _ _) (c .before .before .before .before .before .before .before .n .given .1) (c .before .before .before .before .before .before .before .before .before .before .before .literal .ensures)) .so) (inside _ (c .before .before .before .before .before .before .before .before .before .before .before .before .before .before .before .loop .q) (f .0) (f .1)) ((subst (Passes _ _ _ _) (c .before .before .before .after .given .1) (c .before .before .before .before .before .next .ensures)) .so)
 
 pub literals-spec : {M : Type 1} → statement M
 literals-spec =
@@ -91,5 +129,12 @@ literals-spec =
     same-length-3
     returns-3
     enum-known-after
+    next-requires-2
+    enum-known-r-3
+    same-length-4
+    returns-4
+    enum-known-behind
     loop-less
-    loop-again)
+    loop-again
+    loop-less-2
+    loop-again-2)

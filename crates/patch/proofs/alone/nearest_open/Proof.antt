@@ -9,7 +9,7 @@ use borrow.Author.Needs.{needs}
 use borrow.Author.Tests.{not-true, not-false}
 use lib.ListN.{take}
 use Rattle.lexer.specs.Text.{maybe}
-use Rattle.names.specs.Table.{operations}
+use Rattle.rules.specs.Statements.{present}
 use Rattle.rules.specs.Patch.{beginsLine, above, linesFrom, nearest, leavesOpen}
 use Rattle.patch.proofs.LineLaws.{begins-within, past-bare, at-nearest, none-above, part-long}
 use Rattle.patch.proofs.alone.nearest_open.Statement.{statement}
@@ -22,7 +22,7 @@ use Rattle.patch.proofs.alone.line_start.Reads as line-start-reads
 
 abbrev Inv-loop : tie.InvT-loop
 Inv-loop source place below₀ below = (beginsLine source below ≡ true)
-    × (maybe (nearest (linesFrom [] (take below source))) false (leavesOpen operations) ≡ maybe (nearest (linesFrom [] (take place source))) false (leavesOpen operations))
+    × (maybe (nearest (linesFrom [] (take below source))) false (leavesOpen present) ≡ maybe (nearest (linesFrom [] (take place source))) false (leavesOpen present))
 
 abbrev μ-loop : tie.MeasureT-loop
 μ-loop source place below₀ below = below
@@ -58,7 +58,7 @@ returns c =
     let start = turn .before .before in
     let from = c .before .before .before .before .line-start in
     c .leaves-open .ensures
-    ∙ at-nearest (start .args .source .now) (turn .loop .below) (from .result) (turn .loop .below - 1) (leavesOpen operations) (turn .loop .inv .0) (c .before .before .before .before .before .loop-test .taken) refl (from .ensures .1) (from .ensures .0) (from .ensures .2)
+    ∙ at-nearest (start .args .source .now) (turn .loop .below) (from .result) (turn .loop .below - 1) (leavesOpen present) (turn .loop .inv .0) (c .before .before .before .before .before .loop-test .taken) refl (from .ensures .1) (from .ensures .0) (from .ensures .2)
     (sym (c .before .before .is-bare .ensures) ∙ not-true _ (c .before .if1 .taken))
     ∙ turn .loop .inv .1
 
@@ -71,14 +71,14 @@ loop-again c =
     let start = turn .before .before in
     let from = c .before .before .before .line-start in (
       from .ensures .1,
-      past-bare (start .args .source .now) (turn .loop .below) (from .result) (turn .loop .below - 1) (leavesOpen operations) (turn .loop .inv .0) (c .before .before .before .before .loop-test .taken) refl (from .ensures .1) (from .ensures .0) (from .ensures .2)
+      past-bare (start .args .source .now) (turn .loop .below) (from .result) (turn .loop .below - 1) (leavesOpen present) (turn .loop .inv .0) (c .before .before .before .before .loop-test .taken) refl (from .ensures .1) (from .ensures .0) (from .ensures .2)
           (sym (c .before .is-bare .ensures) ∙ not-false _ (c .if1 .left))
           ∙ turn .loop .inv .1,
     )
 
 returns-2 : tie.Need-returns-2 Inv-loop μ-loop
 unfolding above
-returns-2 c = none-above _ _ (leavesOpen operations) (c .loop-test .left) ∙ c .before .loop .inv .1
+returns-2 c = none-above _ _ (leavesOpen present) (c .loop-test .left) ∙ c .before .loop .inv .1
 
 pub nearest-open-spec : {M : Type 1} → statement M
 nearest-open-spec =

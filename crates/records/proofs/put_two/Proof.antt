@@ -9,10 +9,10 @@ use Rattle.rules.specs.Records.{field}
 use Rattle.records.specs.Writes.{stores}
 use Rattle.records.proofs.Writes.{has-room, no-room, beyond, two, four}
 use borrow.Author.Needs.{needs}
-use Rattle.records.proofs.put_mark.Statement.{statement}
-use Rattle.records.proofs.put_mark.Tie as tie
-use Rattle.records.proofs.put_mark.Reads as reads
-use Rattle.records.proofs.put_mark.Lts as lts
+use Rattle.records.proofs.put_two.Statement.{statement}
+use Rattle.records.proofs.put_two.Tie as tie
+use Rattle.records.proofs.put_two.Reads as reads
+use Rattle.records.proofs.put_two.Lts as lts
 
 returns : tie.Need-returns
 unfolding field
@@ -47,8 +47,8 @@ returns-3 : tie.Need-returns-3
 unfolding field
 returns-3 c = no-room (omega (arith, c .if2 .left)) refl
 
-pub put-mark-spec : {M : Type 1} → statement M
-put-mark-spec =
+pub put-two-spec : {M : Type 1} → statement M
+put-two-spec =
     tie.close
     (tie.spec
     returns

@@ -1,83 +1,103 @@
-//! The oracle itself: what document 01 says of its samples, the original says too.
+//! The original: the model of it says the same, the rules part from it where they are said to, and docs/DIFFERENCES.md is right about it.
 #![cfg(original)]
 use differential::answer::shown;
+use differential::departures::{left_out, left_out_statement, Asked, Why};
 use differential::reads::on_a_large_stack;
-use differential::recorded::in_room;
-use differential::{known, limits, original, patched, patches, recorded, samples, sources, words};
+use differential::{original, recorded, sources, words};
 use mrc_compiler::ast::Operator;
 use mrc_compiler::parser::Parser;
 use std::hint::black_box;
 
 #[test]
-fn samples_of_the_rules() {
-    for (source, expected) in samples::samples() {
-        assert_eq!(recorded::read_of(&in_room(limits::read(&source))), expected, "{}", recorded::escaped(&source));
-    }
-    for (source, expected) in [
-        ("mov ax,[ es : ] ", "REF 32 7 15 255 255"),
-        ("mov ax,[es:]0abh", "REF 30 12 15 255 255"),
-        ("times 2\ntimes (3) ; open", "REF 34 8 13 255 255"),
-        ("times times+5", "REF 34 0 5 255 255"),
-        ("a\ntimes (2) b", "ST 0; LL 0 1; ST 2; VC 9 10 2; LL 12 13; LT 0 0; END 6"),
-        ("in [si+bx]", "REF 25 4 9 14 11"),
-        ("in [es: ax]", "REF 25 8 7 8 255"),
-        ("in-1", "ST 0; VC 3 4 1; PF 2 4 1; OI 2 4; LI 0 4 4 1 2 4; END 5"),
-        ("db 1,,", "ST 0; LD 0 6 1 1; END 2"),
-    ] {
-        assert_eq!(recorded::read_of(&original::read(source.as_bytes())), expected, "{source:?}");
-    }
-}
-
-/// What the program `replay` is given and must print is what is recorded.
-#[test]
-fn replayed_answers() {
-    let (stdin, stdout) = recorded::replayed();
-    let file = |name| std::fs::read(format!("../crates/replay/{name}")).unwrap();
-    assert!(file("stdin") == stdin && file("stdout") == stdout.as_bytes(), "run `cargo run --release --bin replay`");
-}
-
-#[test]
 fn spellings_of_the_original() {
-    let spellings = words::spellings();
+    let mut spellings = words::original_spellings();
     let mut operations: Vec<u8> = spellings.iter().map(|word| words::original(word).operation.unwrap()).collect();
     operations.sort();
     operations.dedup();
     assert_eq!((spellings.len(), operations.len(), operations[98]), (117, 99, 98));
+    let mut model = words::spellings();
+    model.sort();
+    spellings.sort();
+    assert_eq!(model, spellings);
 }
 
-/// The walk that finds the limits is the original's reading: with no limit near, both refuse the same sources with the same
-/// number. And the sources meet every refusal, so a comparison over them says something of each.
+/// The model of the original is the original, and the model of the rules parts from it just on the sources that are left out.
 #[test]
-fn walk_and_original_agree() {
+fn model_and_original_agree() {
     on_a_large_stack(|| {
-        let (mut met, mut accepted) = ([0; 64], 0);
-        sources::all(1, &mut |source| {
-            let plain = original::read(source);
-            if source.len() <= 65536 && source.is_ascii() {
-                let walked = limits::walk(std::str::from_utf8(source).unwrap(), usize::MAX, usize::MAX);
-                assert_eq!(walked.map(|r| r.number), plain.as_ref().err().map(|r| r.number), "{source:?}");
-            }
-            match limits::met(source).map_or(plain, Err) {
-                Ok(_) => accepted += 1,
-                Err(refusal) => met[refusal.number as usize] += 1,
-            }
-        });
-        assert!(accepted > 100_000, "only {accepted} sources are accepted");
-        for number in [1, 2, 3, 5, 10, 11, 12, 13, 14, 15, 16, 17, 20, 21, 22, 23, 24, 25, 26, 30, 31, 32, 33, 34] {
-            assert!(met[number] > 10, "refusal {number} is met {} times only", met[number]);
-        }
+        let mut asked = Asked::default();
+        sources::all(1, &mut |source| asked.full_read(source));
+        assert!(asked.asked > 500_000 && Why::ALL.iter().all(|why| asked.left_out(*why) > 20), "{asked:?}");
+        assert!(asked.left_out(Why::WideNumber) > 10_000, "{asked:?}");
     });
 }
 
-/// The sample that the repository ships, and the inputs of the benchmark, are sources that are read whole.
+/// What is left out, and what only looks so.
 #[test]
-fn samples_are_accepted() {
-    let sample = limits::read(include_bytes!("../../samples/welds.asm"));
-    assert!(sample.is_ok(), "{sample:?}");
-    for text in [sources::marker_lines(65536), sources::code_lines(65536)] {
-        assert!((65400..=65536).contains(&text.len()));
-        let answer = limits::read(text.as_bytes());
-        assert!(answer.is_ok(), "{answer:?}");
+fn left_out_sources() {
+    let deep = format!("equ {}1", "-".repeat(32));
+    let nested = format!("{}a", "times 1 ".repeat(17));
+    for (source, why) in [
+        ("dw 70000", Some(Why::WideNumber)),
+        ("db 256", Some(Why::WideNumber)),
+        ("DB 256", Some(Why::WideNumber)),
+        ("Dw 65535 65536", Some(Why::WideNumber)),
+        ("db 'x',,256", Some(Why::WideNumber)),
+        ("a: db 256", Some(Why::WideNumber)),
+        ("times 2\n\ntimes 3 db 256", Some(Why::WideNumber)),
+        // whatever stands behind
+        ("db 256,12b", Some(Why::WideNumber)),
+        ("db 256 a", Some(Why::WideNumber)),
+        ("a\ndb 256\nequ *5", Some(Why::WideNumber)),
+        // not a data line, or not reached
+        ("in db,256", None),
+        ("in db,256\nin dw,65536", None),
+        ("in db,256\ndb 256", Some(Why::WideNumber)),
+        ("equ 256", None),
+        ("times 70000 db 1", None),
+        ("times 256\ndb 255", None),
+        ("dw 256", None),
+        ("db 1\nequ 256", None),
+        ("db '256'", None),
+        ("db ;256", None),
+        ("db a,256", None),
+        ("db 12b,256", None),
+        ("db 'x,256", None),
+        ("equ *5\ndb 256", None),
+        ("times db 256", None),
+        ("db 2147483648", None),
+        ("equ 2b\ndb 256", None),
+        (&deep, Some(Why::Limits)),
+        (&nested, Some(Why::Limits)),
+        ("db 1;\u{80}", Some(Why::Foreign)),
+        (&"\n".repeat(65537), Some(Why::Long)),
+    ] {
+        assert_eq!(left_out(source.as_bytes()), why, "{source:?}");
+    }
+    // Of a statement read, what that statement takes.
+    for (place, why) in [(0, None), (2, Some(Why::WideNumber)), (8, None), (9, None), (11, None)] {
+        assert_eq!(left_out_statement(b"a\ndb 256\nb db 1", place), why, "{place}");
+    }
+}
+
+/// The token that the original holds after a statement.
+#[test]
+fn token_ahead() {
+    for (source, place, ahead) in [
+        ("a: b", 0, 3),
+        ("a : b", 0, 4),
+        ("a b", 0, 2),
+        ("nop ;c\n\n b", 0, 7),
+        ("nop\n", 0, 4),
+        ("nop ;c", 0, 6),
+        ("rep movsb", 0, 4),
+        ("x nop\nb", 1, 6),
+        ("times 2\na:\nb", 0, 10),
+        ("db 1\n  ", 0, 7),
+    ] {
+        for other in 0..=source.len() {
+            assert_eq!(original::holds(source, place, other), other == ahead, "{source:?} at {place}: {other}");
+        }
     }
 }
 
@@ -106,7 +126,7 @@ fn differences_from_the_manual() {
     assert_eq!(known.len(), 104);
     known.extend(not_the_manuals);
     known.sort();
-    let mut spellings = words::spellings();
+    let mut spellings = words::original_spellings();
     spellings.sort();
     assert_eq!(known, spellings);
     // `lock` is read as an instruction of its own: what follows it is its operand.
@@ -139,6 +159,14 @@ fn differences_from_the_original() {
     read_whole("a ;\u{e9}");
     read_whole(&format!("equ {}1{}", "(".repeat(100), ")".repeat(100)));
     read_whole(&format!("{}a", "times 1 ".repeat(100)));
+    // 60: it takes the low bytes of a number that is too wide.
+    for (source, expected) in [
+        ("dw 70000", "ST 0;LD 0 8 2 112 17;END 2"),
+        ("db 256", "ST 0;LD 0 6 1 0;END 2"),
+        ("times 2 dw 0x10000", "ST 0;VC 6 7 2;LD 8 18 2 0 0;LT 0 0;END 4"),
+    ] {
+        assert_eq!(shown(&original::read(source.as_bytes())).trim_end().replace('\n', ";"), expected);
+    }
     // 30 to 34 stand for its panics, and for nothing else.
     for (number, source) in [(30, "dw 0abh"), (31, "equ 0x80000000"), (32, "mov ax,[es:]"), (33, "mov ax,[si+di]"), (34, "times 2")] {
         assert!(original::caught(|| Parser::new(source).parse_line().is_ok()).is_err(), "{source:?} is no panic");
@@ -182,50 +210,7 @@ fn recorded_answers() {
         assert_eq!(said, expected, "{}", recorded::escaped(&word));
     }
     for (source, expected) in recorded::entries(recorded::READS) {
-        assert_eq!(recorded::read_of(&limits::read(&source)), expected, "{}", recorded::escaped(&source));
-    }
-}
-
-/// The rule of the patch says what document 01 says in words.
-#[test]
-fn known_patches() {
-    for known in known::known() {
-        assert_eq!(patches::expected(&known.call(), usize::MAX, usize::MAX), known.answer, "{}", patched::shown(&known.call()));
-    }
-}
-
-/// The rule of the patch gives what the full read of the edited source gives, wherever the old source is accepted, its listing
-/// is its own, and no line leaves a `times` open. Listings of full reads are well-formed.
-#[test]
-fn patch_rule_and_full_read_agree() {
-    let (mut accepted, mut refused, mut met) = (0, 0, [0; 64]);
-    patches::calls(100_000, &mut |call| {
-        let said = patches::expected(call, usize::MAX, usize::MAX);
-        if let Err(refusal) = &said {
-            met[refusal.number as usize] += 1;
-        }
-        let own = limits::read(call.source);
-        if let Ok(listing) = &own {
-            assert!(patches::well_formed(listing, call.source.len()));
-        }
-        if own.is_err() || own.unwrap() != call.listing {
-            return;
-        }
-        match said {
-            Ok((edited, listing)) => {
-                accepted += 1;
-                assert_eq!(limits::read(&edited), Ok(listing), "{:?}", String::from_utf8_lossy(&edited));
-            }
-            Err(refusal) if !matches!(refusal.number, 40 | 42 | 43) => {
-                refused += 1;
-                let edited = patches::edited(call);
-                assert_eq!(limits::read(&edited), Err(refusal), "{:?}", String::from_utf8_lossy(&edited));
-            }
-            Err(_) => {}
-        }
-    });
-    assert!(accepted > 10_000 && refused > 10_000, "{accepted} and {refused}");
-    for number in [2, 40, 41, 42, 43] {
-        assert!(met[number] > 20, "refusal {number} is met {} times only", met[number]);
+        let said = recorded::from_original(&source).expect("no source on which a request parts from the original is recorded");
+        assert_eq!(recorded::read_of(&said), expected, "{}", recorded::escaped(&source));
     }
 }

@@ -1,0 +1,89 @@
+//! Tokens.
+use super::Rules;
+use laqhoncu::{Refusal, Span, Token, TokenKind};
+
+impl Rules {
+    /// The token at a place that is not beyond the end: "Every token but end of file has at least one byte, and tokens tile the source."
+    pub fn token(&self, source: &[u8], place: usize) -> Result<Token, Refusal> {
+        let rest = &source[place..];
+        let Some(first) = rest.first().copied() else {
+            return Ok(Token { kind: TokenKind::EndOfFile, span: Span { from: place, to: place } });
+        };
+        let (kind, length) = match first {
+            // "Space, tab and CR are whitespace."
+            b' ' | b'\t' | b'\r' => (TokenKind::Whitespace, run(rest, |byte| matches!(byte, b' ' | b'\t' | b'\r'))),
+            // "A comment runs from `;` to before the line feed."
+            b';' => (TokenKind::Comment, run(rest, |byte| byte != b'\n')),
+            b'\n' => (TokenKind::NewLine, 1),
+            b'a'..=b'z' | b'A'..=b'Z' | b'_' => (TokenKind::Identifier, run(rest, |byte| byte.is_ascii_alphanumeric() || byte == b'_')),
+            b'0'..=b'9' => self.number(rest).map_err(|(number, length)| Refusal::at(number, place, place + length))?,
+            // "A quoted string ends at the next `'` (closed) or before the line feed or end (unclosed)."
+            b'\'' => {
+                let inside = run(&rest[1..], |byte| byte != b'\'' && byte != b'\n');
+                let closed = rest.get(1 + inside) == Some(&b'\'');
+                (TokenKind::Text { closed }, 1 + inside + closed as usize)
+            }
+            b']' | b')' | b':' | b',' | b'$' | b'.' | b'/' | b'-' | b'[' | b'(' | b'+' | b'*' => (TokenKind::Punctuation(first), 1),
+            _ => (TokenKind::Invalid(first), 1),
+        };
+        Ok(Token { kind, span: Span { from: place, to: place + length } })
+    }
+
+    /// The number at the start of a text, and its length; or its refusal and the length of what that is about.
+    fn number(&self, text: &[u8]) -> Result<(TokenKind, usize), (u8, usize)> {
+        let digits_of = |base: u32, text: &[u8]| run(text, |byte| (byte as char).is_digit(base));
+        // "`0b`, `0o`, `0d`, `0x` (lower case) followed by at least one digit of that base take all such digits; with none, the token is
+        // the single `0`." 31: "prefixed number above 2147483647", at "prefix and digits".
+        let prefixed = match text {
+            [b'0', b'b', ..] => Some(2),
+            [b'0', b'o', ..] => Some(8),
+            [b'0', b'd', ..] => Some(10),
+            [b'0', b'x', ..] => Some(16),
+            _ => None,
+        };
+        if let Some(base) = prefixed {
+            let digits = digits_of(base, &text[2..]);
+            return match value(&text[2..2 + digits], base) {
+                _ if digits == 0 => Ok((TokenKind::Number(0), 1)),
+                Some(value) => Ok((TokenKind::Number(value), 2 + digits)),
+                None => Err((31, 2 + digits)),
+            };
+        }
+        // "Otherwise take the run of hexadecimal digits. If its last character is b, B, d or D, that is the suffix and leaves the run. Else
+        // a following o, O, h or H is taken as suffix. Else the base is 10."
+        let whole = digits_of(16, text);
+        let (digits, base, length) = match (text[whole - 1], text.get(whole)) {
+            (b'b' | b'B', _) => (whole - 1, 2, whole),
+            (b'd' | b'D', _) => (whole - 1, 10, whole),
+            (_, Some(b'o' | b'O')) => (whole, 8, whole + 1),
+            (_, Some(b'h' | b'H')) => (whole, 16, whole + 1),
+            _ => (whole, 10, whole),
+        };
+        // "Binary with a character above `1` is refusal 30", at the "run with suffix".
+        if base == 2 && text[..digits].iter().any(|byte| *byte > b'1') {
+            return Err((30, length));
+        }
+        // "If the digits don't fit the base or exceed 2147483647, the token is Invalid of length 1."
+        Ok(match value(&text[..digits], base) {
+            Some(value) => (TokenKind::Number(value), length),
+            None => (TokenKind::Invalid(text[0]), 1),
+        })
+    }
+}
+
+/// How many bytes at the start are of a kind.
+fn run(text: &[u8], of_kind: impl Fn(u8) -> bool) -> usize {
+    text.iter().position(|byte| !of_kind(*byte)).unwrap_or(text.len())
+}
+
+/// The value of digits, unless one doesn't fit the base or it exceeds 2147483647.
+fn value(digits: &[u8], base: u32) -> Option<i32> {
+    let mut sum = 0u64;
+    for digit in digits {
+        sum = sum * base as u64 + (*digit as char).to_digit(base)? as u64;
+        if sum > 2147483647 {
+            return None;
+        }
+    }
+    Some(sum as i32)
+}

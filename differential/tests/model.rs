@@ -1,0 +1,342 @@
+//! The model: what the rules say of their samples, and what must hold of their answers among themselves. Nothing here asks the original.
+use differential::answer::Met;
+use differential::model::{self, Rules};
+use differential::patched::{shown, Call};
+use differential::reads::on_a_large_stack;
+use differential::recorded::{escaped, in_room, read_of};
+use differential::sources::Random;
+use differential::{known, patches, recorded, samples, sources, words};
+use laqhoncu::{Operator, TokenKind};
+use std::collections::HashMap;
+
+/// The number that a source is refused with, if it is.
+fn refused(rules: Rules, source: &[u8]) -> Option<u8> {
+    rules.full_read(source).err().map(|refusal| refusal.number)
+}
+
+#[test]
+fn samples_of_the_rules() {
+    for (source, expected) in samples::samples() {
+        assert_eq!(read_of(&in_room(Rules::NOW.full_read(&source))), expected, "{}", escaped(&source));
+    }
+    for (source, expected) in [
+        ("mov ax,[ es : ] ", "REF 32 7 15 255 255"),
+        ("mov ax,[es:]0abh", "REF 30 12 15 255 255"),
+        ("times 2\ntimes (3) ; open", "REF 34 8 13 255 255"),
+        ("times times+5", "REF 34 0 5 255 255"),
+        ("a\ntimes (2) b", "ST 0; LL 0 1; ST 2; VC 9 10 2; LL 12 13; LT 0 0; END 6"),
+        ("in [si+bx]", "REF 25 4 9 14 11"),
+        ("in [es: ax]", "REF 25 8 7 8 255"),
+        ("in-1", "ST 0; VC 3 4 1; PF 2 4 1; OI 2 4; LI 0 4 4 1 2 4; END 5"),
+        ("db 1,,", "ST 0; LD 0 6 1 1; END 2"),
+    ] {
+        assert_eq!(read_of(&Rules::NOW.full_read(source.as_bytes())), expected, "{source:?}");
+    }
+}
+
+/// Document 01 alone answers the samples as document 02 does, but for those that it accepts with the low bytes.
+#[test]
+fn samples_of_the_base() {
+    let mut parted = 0;
+    for (source, expected) in samples::samples() {
+        let said = read_of(&in_room(Rules::BASE.full_read(&source)));
+        if expected.starts_with("REF 60 ") {
+            parted += 1;
+            assert_ne!(said, expected, "{}", escaped(&source));
+        } else {
+            assert_eq!(said, expected, "{}", escaped(&source));
+        }
+    }
+    assert!(parted > 15, "{parted}");
+    assert_eq!(read_of(&Rules::BASE.full_read(b"dw 70000")), "ST 0; LD 0 8 2 112 17; END 2");
+    assert_eq!(read_of(&Rules::BASE.full_read(b"db 256,12b")), "REF 30 7 10 255 255");
+}
+
+/// What the program `replay` is given and must print is what is recorded.
+#[test]
+fn replayed_answers() {
+    let (stdin, stdout) = recorded::replayed();
+    let file = |name| std::fs::read(format!("../crates/replay/{name}")).unwrap();
+    assert!(file("stdin") == stdin && file("stdout") == stdout.as_bytes(), "run `cargo run --release --bin replay`");
+}
+
+/// The recorded answers of the original are the model's, before and after document 02.
+#[test]
+fn recorded_answers() {
+    for rules in [Rules::BASE, Rules::NOW] {
+        for (source, expected) in recorded::entries(recorded::TOKENS) {
+            assert_eq!(recorded::tokens_of(&source, &mut |source, place| rules.token(source, place)), expected, "{}", escaped(&source));
+        }
+        for (word, expected) in recorded::entries(recorded::WORDS) {
+            assert_eq!(recorded::names_of(&word, &mut |word| rules.named(word)), expected, "{}", escaped(&word));
+        }
+        for (source, expected) in recorded::entries(recorded::READS) {
+            assert_eq!(read_of(&rules.full_read(&source)), expected, "{}", escaped(&source));
+        }
+    }
+}
+
+/// "117 spellings of 99 operations .. MOV 0, JMP 59, SALC 98".
+#[test]
+fn spellings() {
+    let mut list = words::spellings();
+    list.sort();
+    list.dedup();
+    assert_eq!((list.len(), model::OPERATIONS.len()), (117, 99));
+    assert_eq!(["mov", "Jmp", "SALC", "sal"].map(|word| model::operation(word.as_bytes())), [Some(0), Some(59), Some(98), None]);
+    for word in list.into_iter().chain(words::OTHERS) {
+        let named = Rules::NOW.named(word.as_bytes());
+        assert_eq!(
+            [named.operation.is_some(), named.name.is_some(), named.directive.is_some()].iter().filter(|is| **is).count(),
+            1,
+            "{word}"
+        );
+        assert_eq!(Rules::NOW.named(word.to_uppercase().as_bytes()), named, "{word}");
+    }
+}
+
+#[test]
+fn evaluate() {
+    let said = |operator, left, right| model::evaluate(operator, left, right).map_err(|refusal| refusal.number);
+    assert_eq!(said(Operator::Divide, -7, 2), Ok(-3));
+    assert_eq!(said(Operator::Divide, i32::MIN, -1), Err(50));
+    assert_eq!(said(Operator::Divide, 0, 0), Err(51));
+    assert_eq!(said(Operator::Multiply, 65536, -32768), Ok(i32::MIN));
+    assert_eq!(said(Operator::Multiply, 65536, 32768), Err(50));
+    assert_eq!(said(Operator::Add, i32::MAX, 1), Err(50));
+    assert_eq!(said(Operator::Subtract, i32::MIN, 1), Err(50));
+    assert_eq!(said(Operator::Subtract, -1, i32::MAX), Ok(i32::MIN));
+}
+
+/// The sources meet every refusal, so a comparison over them says something of each; and the limits and 60 part the models nowhere else.
+#[test]
+fn sources_meet_every_refusal() {
+    on_a_large_stack(|| {
+        let (mut met, mut accepted) = (Met::default(), 0);
+        sources::all(1, &mut |source| {
+            let [original, base, now] = [Rules::ORIGINAL, Rules::BASE, Rules::NOW].map(|rules| rules.full_read(source));
+            assert!(base == original || base.as_ref().is_err_and(|refusal| matches!(refusal.number, 3 | 5)), "{}", escaped(source));
+            assert!(now == base || now.as_ref().is_err_and(|refusal| refusal.number == 60), "{}", escaped(source));
+            match now {
+                Ok(_) => accepted += 1,
+                Err(refusal) => met.add(&refusal),
+            }
+        });
+        assert!(accepted > 100_000, "only {accepted} sources are accepted");
+        met.assert(&[1, 2, 3, 5, 10, 11, 12, 13, 14, 15, 16, 17, 20, 21, 22, 23, 24, 25, 26, 30, 31, 32, 33, 34]);
+        assert!(met.times(60) > 10_000, "refusal 60 is met {} times only", met.times(60));
+    });
+}
+
+/// Among the sources a number too wide stands before and behind each other cause that a data line can meet: the first one counts.
+#[test]
+fn orders_on_one_line() {
+    let mut wanted: HashMap<&[u8], u8> = [
+        ("db 256 12b", 60),
+        ("db 12b 256", 30),
+        ("db 256,0x80000000", 60),
+        ("db,0x80000000 256", 31),
+        ("db 256 2147483648", 60),
+        ("db 2147483648 256", 15),
+        ("db 256,a", 60),
+        ("db,a 256", 15),
+        ("db 256 'x", 60),
+        ("db 'x 256", 26),
+        ("db 256-", 60),
+        ("db- 256", 15),
+        ("db 12b 65536,0x80000000", 30),
+        ("db 65536 12b,0x80000000", 60),
+        ("db,0x80000000 12b 65536", 31),
+        // 16 and 17 are met in an expression, 23 at a line's end
+        ("times 'ab' db 256", 17),
+        ("times 'c db 256", 16),
+        ("db 256\nequ 'ab'\n", 60),
+        ("equ 'ab'\ndb 256\n", 17),
+        ("db 256\nequ 'c\n", 60),
+        ("equ 'c\ndb 256\n", 16),
+        ("db 256\ndb\n", 60),
+        ("db\ndb 256\n", 23),
+    ]
+    .map(|(source, number)| (source.as_bytes(), number))
+    .into();
+    on_a_large_stack(|| {
+        sources::all(1, &mut |source| {
+            if let Some(number) = wanted.remove(source) {
+                assert_eq!(refused(Rules::NOW, source), Some(number), "{}", escaped(source));
+            }
+        });
+    });
+    assert!(wanted.is_empty(), "not among the sources: {:?}", wanted.keys().map(|source| escaped(source)).collect::<Vec<_>>());
+}
+
+/// Of random sources some are refused with 60, and more are accepted.
+#[test]
+fn random_sources() {
+    let (mut random, mut wide, mut accepted) = (Random::new(8), 0, 0);
+    for _ in 0..10_000 {
+        match refused(Rules::NOW, &sources::grammar(&mut random)) {
+            Some(60) => wide += 1,
+            None => accepted += 1,
+            _ => {}
+        }
+    }
+    assert!(wide > 200 && wide < 1000 && accepted > 2000, "{wide} and {accepted}");
+}
+
+/// 60 is at a number that its word doesn't hold. Up to and with it document 01 accepts the source, whose last line is then data; a literal
+/// was due there; and whatever stands behind it, the answer is the same.
+#[test]
+fn wide_numbers() {
+    on_a_large_stack(|| {
+        let mut met = [0, 0];
+        sources::all(1, &mut |source| {
+            let Err(refusal) = Rules::NOW.full_read(source) else { return };
+            if refusal.number != 60 {
+                return;
+            }
+            let span = refusal.span;
+            let token = Rules::NOW.token(source, span.from).unwrap();
+            let TokenKind::Number(value) = token.kind else { panic!("{}: no number", escaped(source)) };
+            assert_eq!(token.span, span, "{}", escaped(source));
+            let listing = Rules::BASE.full_read(&source[..span.to]).unwrap();
+            // The last record but those of `times` is the line's data, which ends in the low bytes of the number.
+            let records = model::split(&listing);
+            let data = records.iter().rfind(|record| !record.starts_with(b"LT")).unwrap();
+            assert!(data.starts_with(b"LD"), "{}", escaped(source));
+            let before = Rules::BASE.full_read(&[&source[..span.from], b"'"].concat()).unwrap_err();
+            assert_eq!((before.number, before.span.from), (26, span.from), "{}", escaped(source));
+            // The word is the last name before.
+            let name = source[..span.from].iter().rposition(|byte| matches!(byte, b'b' | b'B' | b'w' | b'W')).unwrap();
+            let byte = matches!(source[name], b'b' | b'B');
+            if !source[..span.from].contains(&b'\'') && !source[name + 1..span.from].iter().any(u8::is_ascii_alphanumeric) {
+                assert!(value > if byte { 255 } else { 65535 }, "{}", escaped(source));
+                met[byte as usize] += 1;
+            }
+            for behind in ["", " 2b", ",0x80000000", " 'x", " a", "\n2b", ", 1"] {
+                let other = [&source[..span.to], behind.as_bytes()].concat();
+                assert_eq!(Rules::NOW.full_read(&other), Err(refusal), "{}", escaped(&other));
+            }
+        });
+        assert!(met.iter().all(|count| *count > 1000), "{met:?}");
+    });
+}
+
+/// Statement reads, each at the place of the token ahead of the last, make the full read.
+#[test]
+fn statements_make_the_full_read() {
+    on_a_large_stack(|| {
+        sources::all(1, &mut |source| {
+            if source.len() > 4096 {
+                return;
+            }
+            let (mut place, mut listing) = (0, Vec::new());
+            let by_statements = loop {
+                match Rules::NOW.statement_read(source, place) {
+                    Ok(Some((records, ahead))) => {
+                        assert!(ahead > place, "{}: no byte forward from {place}", escaped(source));
+                        listing.extend(records);
+                        place = ahead;
+                    }
+                    Ok(None) => break Ok(std::mem::take(&mut listing)),
+                    Err(refusal) => break Err(refusal),
+                }
+            };
+            assert_eq!(by_statements, Rules::NOW.full_read(source), "{}", escaped(source));
+        });
+    });
+}
+
+/// The sample that the repository ships, and the inputs of the benchmarks, are sources that are read whole.
+#[test]
+fn samples_are_accepted() {
+    let sample = Rules::NOW.full_read(include_bytes!("../../samples/welds.asm"));
+    assert!(sample.is_ok(), "{sample:?}");
+    for text in [sources::marker_lines(65536), sources::code_lines(65536), sources::number_lines(65536)] {
+        assert!((65400..=65536).contains(&text.len()));
+        let answer = Rules::NOW.full_read(text.as_bytes());
+        assert!(answer.is_ok(), "{answer:?}");
+    }
+}
+
+/// The rule of the patch says what documents 01 and 02 say in words.
+#[test]
+fn known_patches() {
+    for rules in [Rules::BASE, Rules::NOW] {
+        for known in known::under(rules) {
+            assert_eq!(rules.patch(&known.call(), usize::MAX, usize::MAX), known.answer, "{}", shown(&known.call()));
+        }
+    }
+    assert_eq!(known::under(Rules::NOW).len() - known::under(Rules::BASE).len(), 3);
+}
+
+/// The rule of the patch gives what the full read of the edited source gives, wherever the old source is accepted, its listing
+/// is its own, and no line leaves a `times` open. Listings of full reads are well-formed.
+#[test]
+fn patch_rule_and_full_read_agree() {
+    on_a_large_stack(|| {
+        let (mut accepted, mut refused, mut met) = (0, 0, Met::default());
+        let mut agree = |call: &Call| {
+            let said = Rules::NOW.patch(call, usize::MAX, usize::MAX);
+            if let Err(refusal) = &said {
+                met.add(refusal);
+            }
+            let own = Rules::NOW.full_read(call.source);
+            if let Ok(listing) = &own {
+                assert!(model::well_formed(listing, call.source.len()));
+            }
+            if own.is_err() || own.unwrap() != call.listing {
+                return;
+            }
+            match said {
+                Ok((edited, listing)) => {
+                    accepted += 1;
+                    assert_eq!(Rules::NOW.full_read(&edited), Ok(listing), "{}", escaped(&edited));
+                }
+                Err(refusal) if !matches!(refusal.number, 40 | 42 | 43) => {
+                    refused += 1;
+                    let edited = model::edited(call);
+                    assert_eq!(Rules::NOW.full_read(&edited), Err(refusal), "{}", escaped(&edited));
+                }
+                Err(_) => {}
+            }
+        };
+        patches::calls(100_000, &mut agree);
+        assert!(accepted > 10_000 && refused > 10_000, "{accepted} and {refused}");
+        met.assert(&[2, 3, 5, 40, 41, 42, 43, 60]);
+    });
+}
+
+/// Listings that are well-formed and ones that are not, a rule each.
+#[test]
+fn well_formed_listings() {
+    let good = ["", "ST 0; LL 0 1", "ST 0; LL 0 0; ST 1; LL 2 3", "ST 0; VC 6 7 2; VC 0 9 1; LL 1 1; LT 0 0; LT 0 0", "ST 9; LL 9 9"];
+    let bad = [
+        // no statement, no line, two lines, a child that is missing, one that is left
+        "LL 0 1",
+        "ST 0",
+        "ST 0; ST 1; LL 1 2",
+        "ST 0; LL 0 1; LL 1 2",
+        "ST 0; LC 0 1",
+        "ST 0; VC 0 1 5; VC 1 2 5; LC 0 2",
+        "ST 0; VC 0 1 5; LT 0 0",
+        "ST 0; LL 0 1; VC 0 1 5; LT 0 0",
+        // places that don't rise, spans outside
+        "ST 1; LL 1 2; ST 1; LL 1 2",
+        "ST 1; LL 0 2",
+        "ST 0; LL 2 1",
+        "ST 0; LL 0 10",
+        "ST 0; VC 0 1 2; LL 0 1; LT 0 1",
+        // fields out of range
+        "ST 0; LD 0 1 0",
+        "ST 0; LI 0 1 99 0 1 1",
+        "ST 0; LI 0 1 4 3 1 1",
+        "ST 0; LI 0 1 4 0 1 10",
+        "ST 0; OR 0 1 16; LI 0 1 4 1 0 1",
+        "ST 0; VC 0 1 5; PF 0 1 2; LC 0 1",
+    ];
+    for (list, expected) in [(&good[..], true), (&bad[..], false)] {
+        for text in list {
+            assert_eq!(model::well_formed(&known::records(text), 9), expected, "{text}");
+        }
+    }
+}
