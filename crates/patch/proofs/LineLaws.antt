@@ -1,7 +1,6 @@
 -- Lines of a source, and what a line says read alone.
 -- Assumes nothing.
 use Prim.Native.Nat.{ℕ, zero, suc, pred, _+_, _-_, _≤_, _<_}
-use Prim.Native.Char.{code}
 use mathlib.Core.Path.{_≡_, refl, sym, ap, ap₂, _∙_}
 use mathlib.Core.Bool.{Bool, true, false, not, _&&_, _||_, and-true, true≢false}
 use mathlib.Core.List.{List, [], _∷_, _++_, append-nil, append-assoc}
@@ -11,18 +10,18 @@ use borrow.Author.Tests.{eqb-true, eqb-false, eq-eqb, ne-eqb, lt-ltb, le-leb, lt
 use lib.Dec.{eqb, leb, ltb, leb·suc-suc}
 use lib.ListN.{length, take, drop, getD, length-take, length-drop}
 use lib.Seq.{take-suc, take-add}
-use Rattle.lexer.specs.Text.{if_then_else_, maybe, is, within, anyOf, isBlank, isDigit, isHexDigit, isLetter, among, run, all, last, digit, valueFrom}
-use Rattle.lexer.specs.Tokens.{largest, numeral, stray, prefixed, digits, inBase, suffixed, numberAt, inQuotes, stringAfter, inComment, mark, markAt, tokenAt, sizeOf}
-use Rattle.lexer.specs.declared.TokenRead.{TokenRead}
+use Rattle.lexer.specs.Text.{if_then_else_, maybe, is, among, run}
+use Rattle.lexer.specs.Tokens.{inComment}
 use Rattle.lexer.proofs.Runs.{run-le, digits-more, digits-none}
-use Rattle.lexer.proofs.Branches.{either, and-split}
-use Rattle.rules.specs.Lexemes.{Lexeme, kindOf, isGap, lexeme, put, tokensFrom}
+use Rattle.lexer.proofs.Branches.{and-split}
+use Rattle.rules.specs.Lexemes.{tokensFrom}
 use Rattle.rules.specs.Reader.{Refusal as Cause, Answer, done, refused, arrive, isLineEnd}
-use Rattle.rules.specs.Statements.{Row, State, push, rows, firstOf, enter}
+use Rattle.rules.specs.Statements.{Row, State, rows, firstOf, enter}
 use Rattle.rules.specs.Patch.{beginsLine, lineAt, linesFrom, bareLine, nearest}
 use Rattle.rules.proofs.Append.{end-fine, arrive-fine}
 use Rattle.rules.proofs.Cut.{blankRows, arrive-done}
 use Rattle.rules.proofs.Exchange.{ends-rows}
+use Rattle.rules.proofs.OneRow.{Single, one-row as single-row}
 use Rattle.parser.specs.declared.state.Parser.{Parser}
 use Rattle.parser.specs.declared.state.Refusal.{Refusal}
 use Rattle.parser.specs.Views.{hereOf, stateOf}
@@ -181,98 +180,17 @@ none-above s (suc a) f h = absurd (omega arith)
 pub part-long : (s : List ℕ) (b e n : ℕ) → length s ≤ n → length (part s b e) ≤ n
 part-long s b e n h = omega (arith, length-take (e - b) (drop b s), length-drop b s)
 
--- A token that begins with another byte than a line feed ends no line.
-module _ (s : List ℕ) where
-  abbrev Inside : TokenRead → Type 0
-  Inside t = isLineEnd (kindOf t s) ≡ false
-
-  digits-inside : (c base : ℕ) (ds : List ℕ) (n : ℕ) → Inside (digits c base ds n)
-  unfolding digits numeral stray isLineEnd
-  digits-inside c base ds n = either Inside (all (λ d. ltb (digit d) base) ds && leb (valueFrom 0 base ds) largest) _ _ refl refl
-
-  inBase-inside : (c n : ℕ) (ds cut : List ℕ) (after : ℕ) → Inside (inBase c n ds cut after)
-  unfolding inBase isLineEnd
-  inBase-inside c n ds cut after =
-      either Inside (anyOf "bB" (last ds)) _ _ (either Inside (all (λ d. leb d (code "1")) cut) _ _ (digits-inside c 2 cut n) refl)
-      (either Inside (anyOf "dD" (last ds)) _ _ (digits-inside c 10 cut n)
-      (either Inside (anyOf "oO" after) _ _ (digits-inside c 8 ds (suc n))
-      (either Inside (anyOf "hH" after) _ _ (digits-inside c 16 ds (suc n)) (digits-inside c 10 ds n))))
-
-  prefixed-inside : (base : ℕ) (p : ℕ → Bool) (t : List ℕ) → Inside (prefixed base p t)
-  unfolding prefixed numeral isLineEnd
-  prefixed-inside base p t = either Inside (eqb (run p t) 0) _ _ refl (either Inside (leb (valueFrom 0 base (take (run p t) t)) largest) _ _ refl refl)
-
-  suffixed-inside : (c : ℕ) (cs : List ℕ) → Inside (suffixed c cs)
-  unfolding suffixed
-  suffixed-inside c cs = inBase-inside c _ _ _ _
-
-  numberAt-inside : (c : ℕ) (cs : List ℕ) → Inside (numberAt c cs)
-  unfolding numberAt
-  numberAt-inside c [] = suffixed-inside c []
-  numberAt-inside c (d ∷ ds) =
-      either Inside (not (is "0" c)) _ _ (suffixed-inside c (d ∷ ds))
-      (either Inside (is "b" d) _ _ (prefixed-inside 2 (within "0" "1") ds)
-      (either Inside (is "o" d) _ _ (prefixed-inside 8 (within "0" "7") ds)
-      (either Inside (is "d" d) _ _ (prefixed-inside 10 isDigit ds)
-      (either Inside (is "x" d) _ _ (prefixed-inside 16 isHexDigit ds) (suffixed-inside c (d ∷ ds))))))
-
-  stringAfter-inside : (cs : List ℕ) → Inside (stringAfter cs)
-  unfolding stringAfter isLineEnd
-  stringAfter-inside cs = either Inside (is "'" (getD cs (run inQuotes cs) 0)) _ _ refl refl
-
-  markAt-inside : (c : ℕ) → Inside (markAt c)
-  unfolding markAt mark stray isLineEnd
-  markAt-inside c =
-      either Inside (is ":" c) _ _ refl
-      (either Inside (is "," c) _ _ refl
-      (either Inside (is "$" c) _ _ refl
-      (either Inside (is "." c) _ _ refl
-      (either Inside (is "[" c) _ _ refl
-      (either Inside (is "]" c) _ _ refl
-      (either Inside (is "(" c) _ _ refl
-      (either Inside (is ")" c) _ _ refl
-      (either Inside (is "+" c) _ _ refl
-      (either Inside (is "-" c) _ _ refl
-      (either Inside (is "*" c) _ _ refl
-      (either Inside (is "/" c) _ _ refl refl)))))))))))
-
-  token-inside : (c : ℕ) (cs : List ℕ) → is "\n" c ≡ false → Inside (tokenAt (c ∷ cs))
-  unfolding tokenAt isLineEnd
-  token-inside c cs h =
-      either Inside (is ";" c) _ _ refl
-      (either Inside (isBlank c) _ _ refl
-      (either Inside (isDigit c) _ _ (numberAt-inside c cs)
-      (either Inside (isLetter c) _ _ refl
-      (either Inside (is "'" c) _ _ (stringAfter-inside cs)
-      (rw h (markAt-inside c))))))
-
--- So a text without a line feed is one row.
+-- A text without a line feed is one row.
 abbrev One : List Row → Type 0
 One l = (r : Row) × (l ≡ r ∷ [])
 
-put-one : (p : ℕ) (t : TokenRead) (s : List ℕ) (xs : List Lexeme) → Inside s t → One (rows xs) → One (rows (put p t s xs))
-unfolding put lexeme rows push
-put-one p t s xs i (r, e) = go (isGap (kindOf t s))
-  where
-    go : (b : Bool) → One (rows (if b then xs else (record { from = p; to = p + sizeOf t; kind = kindOf t s } ∷ xs)))
-    go true = (r, e)
-    go false = (record { first = record { from = p; to = p + sizeOf t; kind = kindOf t s }; more = r .first ∷ r .more }, rw (i, e))
-
-other-first : (c : ℕ) (cs : List ℕ) → among 10 (c ∷ cs) ≡ false → (is "\n" c ≡ false) × (among 10 cs ≡ false)
-unfolding among is
-other-first c cs h = go (eqb 10 c) refl h
-  where
-    go : (b : Bool) → eqb 10 c ≡ b → b || among 10 cs ≡ false → (eqb c 10 ≡ false) × (among 10 cs ≡ false)
-    go true e h = absurd (true≢false h)
-    go false e h = (ne-eqb c 10 (λ z. eqb-false 10 c e (sym z)), h)
+single-one : (l : List Row) → Single l → One l
+single-one [] h = absurd h
+single-one (r ∷ []) h = (r, refl)
+single-one (r ∷ q ∷ rs) h = absurd h
 
 one-row : (p k : ℕ) (s : List ℕ) → among 10 s ≡ false → One (rows (tokensFrom p k s))
-unfolding tokensFrom rows isLineEnd
-one-row p k [] h = (_, refl)
-one-row p (suc k) (c ∷ cs) h = one-row (suc p) k cs (other-first c cs h .1)
-one-row p zero (c ∷ cs) h =
-    let (i, j) = other-first c cs h in
-    put-one p (tokenAt (c ∷ cs)) (c ∷ cs) _ (token-inside (c ∷ cs) c cs i) (one-row (suc p) (pred (sizeOf (tokenAt (c ∷ cs)))) cs j)
+one-row p k s h = single-one (rows (tokensFrom p k s)) (single-row p k s h)
 
 -- Whether it is bare says its first token.
 module _ (s : List ℕ) (plain : among 10 s ≡ false) where
