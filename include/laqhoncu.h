@@ -108,7 +108,7 @@ enum laqhoncu_kind {
     LAQHONCU_KIND_NEW_LINE = '\n', /* a line feed */
     LAQHONCU_KIND_WHITESPACE = ' ', /* spaces, tabs and carriage returns */
     LAQHONCU_KIND_COMMENT = ';', /* from `;` to before the line feed */
-    LAQHONCU_KIND_IDENTIFIER = 'a', /* a word: a letter or `_`, then letters, digits and `_` */
+    LAQHONCU_KIND_IDENTIFIER = 'a', /* a word: a letter or `_`, then letters, digits, `_` and dots */
     LAQHONCU_KIND_NUMBER = '0', /* a number, up to 2147483647 */
     LAQHONCU_KIND_CLOSED_STRING = '\'', /* a string with both its quotes */
     LAQHONCU_KIND_UNCLOSED_STRING = '"', /* a string that the line's or the source's end cuts off */

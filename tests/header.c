@@ -164,6 +164,31 @@ static void full_reads(void) {
     refuses("dw 65536", 60, 3, 8);
     refuses("times 2 db 0x100,12b", 60, 11, 16);
     refuses("db 1,12b,256", 30, 5, 8);
+    /* dots in names, and dots that start a token */
+    reads("w12.a equ 5", "ST 0; LL 0 5; ST 6; VC 10 11 5; LC 6 11");
+    reads("a.", "ST 0; LL 0 2");
+    reads("a..b", "ST 0; LL 0 4");
+    reads("a.b:", "ST 0; LL 0 3");
+    reads("a.:", "ST 0; LL 0 2");
+    reads("a.5h", "ST 0; LL 0 4");
+    reads("a. b", "ST 0; LL 0 2; ST 3; LL 3 4");
+    refuses(".a", 20, 0, 1);
+    refuses("a .b", 20, 2, 3);
+    refuses("1.a", 20, 0, 1);
+    refuses("db 1.a", 15, 4, 5);
+    refuses("equ $.a", 10, 5, 6);
+    reads("in ax.b", "ST 0; VL 3 7; OI 3 7; LI 0 7 4 1 3 7");
+    reads("in byte.", "ST 0; VL 3 8; OI 3 8; LI 0 8 4 1 3 8");
+    reads("in [bx.a]", "ST 0; VL 4 8; OD 3 9 0 0; LI 0 9 4 1 3 9");
+    refuses("in [es.x:1]", 13, 8, 9);
+    refuses("in [.a]", 24, 4, 5);
+    reads("mov.x ax", "ST 0; LL 0 5; ST 6; LL 6 8");
+    reads("k equ.5", "ST 0; LL 0 1; ST 2; LL 2 7");
+    reads("equ 2*w.1-w.", "ST 0; VC 4 5 2; VL 6 9; IN 4 9 2; VL 10 12; IN 4 12 1; LC 0 12");
+    refuses("times a.b", 34, 0, 5);
+    reads("times 0b.1", "ST 0; VC 6 7 0; LL 7 10; LT 0 0");
+    refuses("times 10b.x", 20, 9, 10);
+    reads("times 1bh.x", "ST 0; VC 6 8 1; LL 8 11; LT 0 0");
     registers = refusal(25, 4, 9);
     registers.first = 14;
     registers.second = 11;
@@ -213,6 +238,9 @@ static void statement_reads(void) {
     statement("k equ 2", 7, refusal(0, 0, 0), 0, "", 0);
     statement("\n ;k", 0, refusal(0, 0, 0), 0, "", 0);
     statement("k equ 2", 8, refusal(42, 0, 0), 0, "", 0);
+    statement("a.b c", 0, refusal(0, 0, 0), 1, "ST 0; LL 0 3", 4);
+    statement(";a.b", 0, refusal(0, 0, 0), 0, "", 0);
+    statement(";a.b", 1, refusal(0, 0, 0), 1, "ST 1; LL 1 4", 4);
     statement("a dw 0abh", 2, refusal(30, 5, 8), 0, "", 0);
     statement("a db 256", 2, refusal(60, 5, 8), 0, "", 0);
     statement("a equ *5", 2, refusal(22, 0, 0), 0, "", 0);
@@ -260,6 +288,9 @@ static void tokens(void) {
     token(source, 21, LAQHONCU_KIND_END_OF_FILE, 0, 21);
     token("dw 0abh", 3, LAQHONCU_BINARY_LARGER_DIGIT, 0, 6);
     token("equ 0x80000000", 4, LAQHONCU_PREFIXED_TOO_LARGE, 0, 14);
+    token("w12.a..:", 0, LAQHONCU_KIND_IDENTIFIER, 0, 7);
+    token("w12.a..:", 3, '.', 0, 4);
+    token("1.a", 0, LAQHONCU_KIND_NUMBER, 1, 1);
     token("", 0, LAQHONCU_KIND_END_OF_FILE, 0, 0);
     found = laqhoncu_token(bytes("a"), 1, 7);
     check(found.kind == LAQHONCU_KIND_END_OF_FILE && found.value == 0 && found.end == 7, "the token beyond the end", "a");
@@ -321,6 +352,10 @@ static void words(void) {
     word("DB", LAQHONCU_NONE, LAQHONCU_NO_NAME, 1);
     word("dw", LAQHONCU_NONE, LAQHONCU_NO_NAME, 2);
     word("times", LAQHONCU_NONE, LAQHONCU_NO_NAME, 3);
+    word("mov.x", LAQHONCU_NONE, LAQHONCU_NO_NAME, LAQHONCU_NONE);
+    word("ax.b", LAQHONCU_NONE, LAQHONCU_NO_NAME, LAQHONCU_NONE);
+    word("byte.", LAQHONCU_NONE, LAQHONCU_NO_NAME, LAQHONCU_NONE);
+    word("times.", LAQHONCU_NONE, LAQHONCU_NO_NAME, LAQHONCU_NONE);
     word("", LAQHONCU_NONE, LAQHONCU_NO_NAME, LAQHONCU_NONE);
 }
 
@@ -400,6 +435,8 @@ static void patches(void) {
     patch_refused(edit("times 2;", "", 0, ""), ROOM, ROOM, refusal(40, 0, 0));
     patch_refused(edit("times 2\n ;c\nb", "", 12, "c"), ROOM, ROOM, refusal(40, 0, 0));
     patch_refused(edit("nop", "", 0, "times 1"), ROOM, ROOM, refusal(40, 0, 0));
+    patch_refused(edit("times a.b\nb", "", 10, "c"), ROOM, ROOM, refusal(40, 0, 0));
+    patch_written(edit("w12 equ 5\n", "ST 0; LL 0 3; ST 4; VC 8 9 5; LC 4 9", 0, "w12.a equ 5"), "w12.a equ 5\n", "ST 0; LL 0 5; ST 6; VC 10 11 5; LC 6 11");
     patch_refused(edit("nop", "", 0, "times 1;\x80"), ROOM, ROOM, refusal(2, 8, 9));
     memset(blanks, ' ', LONGEST + 1);
     memcpy(blanks, "times 1", 7);

@@ -66,6 +66,12 @@ fn too_wide(source: &[u8], number: Span) -> Option<String> {
     Some(format!("the number is {}, and `{word}` takes at most {}", grouped(value), grouped(largest)))
 }
 
+/// A refusal at a dot, with where a dot may stand: one that is a token of its own is accepted nowhere.
+fn lone_dot(source: &[u8], refused: &Refusal, span: Span) -> Option<String> {
+    let is_dot = token(source, span.from).ok()?.kind == TokenKind::Punctuation(b'.');
+    is_dot.then(|| format!("{refused}; a dot stands only in a name, behind its first character"))
+}
+
 /// A number with a comma before each three digits.
 fn grouped(number: i32) -> String {
     let (mut text, digits) = (String::new(), number.to_string());
@@ -86,6 +92,7 @@ pub fn refusal(name: &str, source: &[u8], line: usize, refused: &Refusal) -> Str
     };
     let words = match (refused.number, place) {
         (refusals::NUMBER_TOO_WIDE, Some(span)) => too_wide(source, span),
+        (_, Some(span)) => lone_dot(source, refused, span),
         _ => None,
     };
     let words = words.unwrap_or_else(|| refused.to_string());
@@ -171,6 +178,16 @@ mod tests {
         assert_eq!(words("dw 1\n; dw 2\ntimes 2\n dB 'dw' ,, 100h dw 3"), "the number is 256, and `db` takes at most 255");
         assert_eq!(words("db 1\nw: DW 65536"), "the number is 65,536, and `dw` takes at most 65,535");
         assert_eq!([7, 70, 700, 7000, 70000, i32::MAX].map(grouped), ["7", "70", "700", "7,000", "70,000", "2,147,483,647"]);
+    }
+
+    #[test]
+    fn a_dot_that_is_no_part_of_a_name() {
+        let words = |source: &str| said(source).lines().next().unwrap().to_string();
+        let hint = "a dot stands only in a name, behind its first character";
+        assert_eq!(words("nop\nw12 .a equ 5"), format!("f:2:5: an instruction is expected; {hint}"));
+        assert_eq!(words("dw 1.5"), format!("f:1:5: a number or a quoted text is expected; {hint}"));
+        assert_eq!(words("equ $.a"), format!("f:1:6: the end of the line is expected; {hint}"));
+        assert_eq!(words("w12.a equ ,.5"), "f:1:11: a value or an operand is expected");
     }
 
     #[test]

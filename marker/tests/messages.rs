@@ -32,6 +32,7 @@ fn rows() -> Vec<Row> {
         row(16, "equ 'a", 4, 6, "a quoted text with its closing quote is expected"),
         row(17, "equ 'ab'", 4, 8, "a quoted text of one character is expected"),
         row(20, "1", 0, 1, "an instruction is expected"),
+        row(20, "w12 .a equ 5", 4, 5, "an instruction is expected; a dot stands only in a name, behind its first character"),
         row(21, "mov ,", 4, 5, "a value or an operand is expected"),
         row(21, "equ 2147483648", 4, 5, "a value or an operand is expected"),
         // The rules give it no place, and a person gets the operator's.
@@ -49,6 +50,7 @@ fn rows() -> Vec<Row> {
         row(60, "dw 70000", 3, 8, "the number is 70,000, and `dw` takes at most 65,535"),
         row(60, "w1: db 255, 'db', 256 ; dw", 18, 21, "the number is 256, and `db` takes at most 255"),
         row(60, "w2: DW 0,0FFFFFh,12b", 9, 16, "the number is 1,048,575, and `dw` takes at most 65,535"),
+        row(60, "w1.a: dw 70000 ; w1.b", 9, 14, "the number is 70,000, and `dw` takes at most 65,535"),
         row(60, "times 70000 Db 0x7fffffff", 15, 25, "the number is 2,147,483,647, and `db` takes at most 255"),
     ]
 }

@@ -85,7 +85,7 @@ pub enum TokenKind {
     NewLine,
     /// Nothing is left; the one token without a byte.
     EndOfFile,
-    /// A name, an operation, a register, ..
+    /// A name, an operation, a register, ..: a letter or `_`, then letters, digits, `_` and dots.
     Identifier,
     /// A number, and its value.
     Number(i32),
@@ -273,7 +273,7 @@ pub fn token_read(source: &[u8], place: usize) -> Result<Token, Refusal> {
 /// ```
 /// use laqhoncu::{TokenKind, token};
 ///
-/// let source = b"w1: dw 'ok'";
+/// let source = b"w1.a: dw 'ok'";
 /// let (mut place, mut texts) = (0, Vec::new());
 /// loop {
 ///     let token = token(source, place)?;
@@ -284,7 +284,7 @@ pub fn token_read(source: &[u8], place: usize) -> Result<Token, Refusal> {
 ///     }
 ///     place = token.span.to;
 /// }
-/// assert_eq!(texts, [b"w1" as &[u8], b":", b"dw", b"'ok'"]);
+/// assert_eq!(texts, [b"w1.a" as &[u8], b":", b"dw", b"'ok'"]);
 /// # Ok::<(), laqhoncu::Refusal>(())
 /// ```
 #[inline]
@@ -338,7 +338,7 @@ pub fn operation(word: &[u8]) -> Option<u8> {
 ///
 /// assert_eq!(name(b"Ax"), Some(Name::Register(Register::Ax)));
 /// assert_eq!((name(b"es"), name(b"word")), (Some(Name::Segment(Segment::Es)), Some(Name::Size(Size::Word))));
-/// assert_eq!(name(b"w1"), None);
+/// assert_eq!((name(b"w1"), name(b"ax.b")), (None, None));
 /// ```
 #[inline]
 pub fn name(word: &[u8]) -> Option<Name> {

@@ -1,14 +1,16 @@
--- Samples of document 01's section "Tokens", computed: numbers, where a row that does not hold is named, and all the digits.
+-- Samples of document 01's section "Tokens", computed: numbers and names, where a row that does not hold is named, and all the digits.
 use mathlib.Core.Path.{_≡_, refl}
 use mathlib.Core.List.{List, [], _∷_}
 use Prim.Native.Nat.{ℕ, zero, suc}
 use Prim.Native.Char.{Char, code}
 use Prim.Native.String.{String}
 use Rattle.lexer.specs.Text.{if_then_else_, bytes, isHexDigit, digit, openText}
-use Rattle.lexer.specs.Tokens.{numeral, stray, tokenAt, openTokens}
+use Rattle.lexer.specs.Tokens.{numeral, stray, mark, tokenAt, openTokens}
+use Rattle.lexer.specs.declared.PunctuationKind.the-variants.{Dot}
+use Rattle.lexer.specs.declared.Token.the-variants.{Identifier}
 use Rattle.lexer.specs.declared.Fault.the-variants.{LargerDigit, TooLarge}
 use Rattle.lexer.specs.declared.TokenRead.{TokenRead}
-use Rattle.lexer.specs.declared.TokenRead.the-variants.{Refused}
+use Rattle.lexer.specs.declared.TokenRead.the-variants.{Read, Refused}
 
 pub record Sample : Type 0 where
   pub source : String
@@ -46,6 +48,21 @@ Agree (k ∷ ks) = (tokenAt (bytes (k .source)) ≡ k .token) × Agree ks
 pub known : Agree samples
 unfolding openTokens samples Agree
 known = (refl, (refl, (refl, (refl, (refl, (refl, (refl, (refl, (refl, (refl, (refl, (refl, (refl, tt)))))))))))))
+
+-- A name takes the dots behind its first character, as many as stand there; a dot that starts a token is punctuation. Document 02, Ask 2.
+unfoldable pub dots : List Sample
+dots =
+    "w12.a equ 5" begins Read (Identifier 5)
+    ∷ "a..b.:" begins Read (Identifier 5)
+    ∷ "_.5h" begins Read (Identifier 4)
+    ∷ ".a" begins mark Dot
+    ∷ "1.a" begins numeral 1 1
+    ∷ "0b.1" begins numeral 1 0
+    ∷ []
+
+pub dots-known : Agree dots
+unfolding openTokens dots Agree
+dots-known = (refl, (refl, (refl, (refl, (refl, (refl, tt))))))
 
 -- A digit's character, as a byte, and what the digit is worth.
 pub record Worth : Type 0 where

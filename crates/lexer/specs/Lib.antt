@@ -3,3 +3,4 @@ pub mod Tokens
 pub mod Runs
 pub mod Scanned
 pub mod Known
+pub mod Dots

@@ -45,12 +45,13 @@ isDigit c = within "0" "9" c
 unfoldable pub isHexDigit : ℕ → Bool
 isHexDigit c = isDigit c || within "a" "f" c || within "A" "F" c
 
--- A name begins with a letter or `_` and goes on with letters, digits and `_`.
+-- A name begins with a letter or `_` and goes on with letters, digits, `_` and dots. Document 02, Ask 2: after its first character a name may
+-- hold a dot.
 unfoldable pub isLetter : ℕ → Bool
 isLetter c = within "a" "z" c || within "A" "Z" c || is "_" c
 
 unfoldable pub isWordPart : ℕ → Bool
-isWordPart c = isLetter c || isDigit c
+isWordPart c = isLetter c || isDigit c || is "." c
 
 unfoldable pub lower : ℕ → ℕ
 lower c = if within "A" "Z" c then c + 32 else c

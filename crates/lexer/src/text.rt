@@ -46,7 +46,7 @@ pub fn is_identifier_first(c: u8) -> bool
 pub fn is_identifier(c: u8) -> bool
     ensures { λ r. ⌜ r ≡ isWordPart c ⌝ }
 {
-    is_identifier_first(c) | is_decimal_digit(c)
+    is_identifier_first(c) | is_decimal_digit(c) | (c == b'.')
 }
 
 // A letter, small or capital.

@@ -49,7 +49,7 @@ unfolding same
 same-refl [] = tt
 same-refl (c ∷ s) = rw (eq-eqb c c refl) (same-refl s)
 
-same-eq : (s t : List ℕ) → T (same s t) → s ≡ t
+pub same-eq : (s t : List ℕ) → T (same s t) → s ≡ t
 unfolding same
 same-eq [] [] e = refl
 same-eq [] (d ∷ t) e = absurd e

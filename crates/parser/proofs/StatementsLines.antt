@@ -10,6 +10,7 @@ use borrow.Author.Tests.{eqb-true}
 use lib.Dec.{eqb}
 use lib.ListN.{length, drop}
 use Rattle.lexer.specs.Text.{if_then_else_, maybe}
+use Rattle.lexer.specs.Tokens.{tokenAt}
 use Rattle.rules.specs.Lexemes.{Lexeme}
 use Rattle.rules.specs.Reader.{Refusal as Cause, at as at-span, Answer, done, refused, Reader, Line, thence, _>>=_, refusedAs, arrive, step, next, kind, refuseHere, isLineEnd}
 use Rattle.rules.specs.Statements.{Row, State, rows, over, inLine, firstOf, enter, stepRow, nextRow, lineEnd, skip, skipLines}
@@ -129,7 +130,7 @@ module _ (s : List ℕ) (p : Parser) where
     where
       go : (b : Bool) → eqb (p .kind) 0 ≡ b → Finished (x ∷ (if b then [] else From s (p .pos)))
       go true e = at-end e
-      go false e = ended-cons x (From s (p .pos)) (tokens-finished (p .pos) 0 (drop (p .pos) s))
+      go false e = ended-cons x (From s (p .pos)) (tokens-finished tokenAt (p .pos) 0 (drop (p .pos) s))
 
   ended : AllEnded (record { first = x; more = moreOf x xs } ∷ belowOf x xs)
   ended = subst AllEnded (rows-first x xs) (rows-all (x ∷ xs) finished)
@@ -153,7 +154,7 @@ module _ (s : List ℕ) (p : Parser) where
 
     below-some : (r : Row) × (rs : List Row) × (rowsOf s p ≡ r ∷ rs)
     below-some =
-        let (r, rs, f) = some (From s (p .pos)) (tokens-finished (p .pos) 0 (drop (p .pos) s)) in
+        let (r, rs, f) = some (From s (p .pos)) (tokens-finished tokenAt (p .pos) 0 (drop (p .pos) s)) in
         (r, rs, below-is ∙ f)
       where
         some : (ys : List Lexeme) → Finished ys → (r : Row) × (rs : List Row) × (rows ys ≡ r ∷ rs)
@@ -215,7 +216,7 @@ module _ (s : List ℕ) (place : ℕ) where
       let a : size (stateOf s q) < size (stateOf s before) = feed-falls s before refl h in
       let b = tokens-left s q in
       let c = tokens-left s before in
-      let d : length (behind s 10 place) ≤ suc (length (drop place s)) = tokens-count place 0 (drop place s) in
+      let d : length (behind s 10 place) ≤ suc (length (drop place s)) = tokens-count tokenAt place 0 (drop place s) in
       omega arith
 
   pub begins : {r : Step} → Passes whole s before nextRow r → Starts s place r

@@ -14,7 +14,7 @@ use Rattle.lexer.specs.Text.{if_then_else_, maybe}
 use Rattle.lexer.specs.Tokens.{tokenAt, sizeOf}
 use Rattle.lexer.specs.declared.TokenRead.{TokenRead}
 use Rattle.lexer.proofs.Branches.{either}
-use Rattle.rules.specs.Lexemes.{Kind, Lexeme, isGap, kindOf, lexeme, put, tokensFrom}
+use Rattle.rules.specs.Lexemes.{Kind, Lexeme, isGap, kindOf, lexeme, put, tokensBy, tokensFrom}
 use Rattle.rules.specs.Reader.{Answer, done, refused, Reader, Line, thence, _>>=_, arrive, step, next, kind, expect, refuseHere, isLineEnd, refusedAs}
 use Rattle.rules.specs.Reader.{Refusal as Cause, at as at-span}
 use Rattle.rules.specs.Statements.{Row, State, firstOf, enter, stepRow, nextRow}
@@ -107,7 +107,7 @@ unfolding put
 put-some at t u xs h = either (λ (l : List Lexeme). 1 ≤ length l) (isGap (kindOf t u)) xs (lexeme at t u ∷ xs) h (omega arith)
 
 some-tokens : (at k : ℕ) (u : List ℕ) → 1 ≤ length (tokensFrom at k u)
-unfolding tokensFrom
+unfolding tokensBy
 some-tokens at k [] = le-refl 1
 some-tokens at zero (c ∷ cs) = put-some at (tokenAt (c ∷ cs)) (c ∷ cs) _ (some-tokens (suc at) (pred (sizeOf (tokenAt (c ∷ cs)))) cs)
 some-tokens at (suc k) (c ∷ cs) = some-tokens (suc at) k cs

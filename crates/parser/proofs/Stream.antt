@@ -22,7 +22,7 @@ use Rattle.lexer.specs.declared.LiteralKind.the-variants.{Number, Text}
 use Rattle.lexer.specs.declared.PunctuationKind.the-variants.{CloseBracket, CloseParenthesis, Colon, Comma, Dollar, Dot, ForwardSlash, Minus, OpenBracket, OpenParenthesis, Plus, Star}
 use Rattle.lexer.specs.declared.Fault.the-variants.{LargerDigit, TooLarge}
 use Rattle.lexer.proofs.TokensText.{InRange, tokenAt-some, tokenAt-le, tokenAt-in-range}
-use Rattle.rules.specs.Lexemes.{Kind, newline, Lexeme, isGap, kindOf, lexeme, put, tokensFrom}
+use Rattle.rules.specs.Lexemes.{Kind, newline, Lexeme, isGap, kindOf, lexeme, put, tokensBy, tokensFrom}
 use Rattle.rules.proofs.Lexemes.{tokens-skip}
 use Rattle.rules.specs.Reader.{Answer, done, refused, Reader, Line, arrive, step, next, isLineEnd, refusedAs}
 use Rattle.rules.specs.Reader.{Refusal as Cause, at as at-span}
@@ -105,7 +105,7 @@ module _ (s : List ℕ) (at : ℕ) where
   size-le = let m = tokenAt-le (drop at s) in let l = length-drop at s in omega arith
 
   inside-step : at < length s → From s at ≡ put at here (drop at s) (From s (at + sizeOf here))
-  unfolding tokensFrom
+  unfolding tokensBy
   inside-step h =
       let e = drop-cons s at 0 h in
       let l = length-drop (suc at) s in
@@ -121,7 +121,7 @@ module _ (s : List ℕ) (at : ℕ) where
   at-end h = rw (drop-of-length-le s h)
 
   end-step : length s ≤ at → From s at ≡ record { from = at; to = at; kind = newline } ∷ []
-  unfolding tokensFrom
+  unfolding tokensBy
   end-step h = rw (drop-of-length-le s h)
 
   module _ {k e : ℕ} (i : k ≡ byteOf here) (j : e ≡ at + sizeOf here) where

@@ -7,7 +7,7 @@ use Prim.Native.Nat.{ℕ, zero, suc, pred, _+_, _*_, _≤_, _<_, zero-le}
 use native.Mathlib.Omega.{arith}
 use lib.ListN.{length, length-append}
 use mathlib.Core.Option.{Option, none, some}
-use Rattle.lexer.specs.Text.{if_then_else_, maybe, isDigit, isLetter, isWordPart, run}
+use Rattle.lexer.specs.Text.{if_then_else_, maybe, is, isDigit, isLetter, isWordPart, run}
 use Rattle.lexer.specs.Tokens.{tokenAt, sizeOf}
 use Rattle.lexer.specs.declared.LiteralKind.the-variants.{Number, Text}
 use Rattle.lexer.specs.declared.Token.the-variants.{Whitespace, Identifier, Literal, Punctuation, Comment, NewLine, EndOfFile, Invalid}
@@ -15,7 +15,7 @@ use Rattle.lexer.specs.declared.Fault.the-variants.{LargerDigit, TooLarge}
 use Rattle.lexer.specs.declared.TokenRead.{TokenRead}
 use Rattle.lexer.specs.declared.TokenRead.the-variants.{Read, Refused}
 use Rattle.lexer.proofs.TokensText.{Begun, tokenAt-begun, tokenAt-some, tokenAt-le}
-use Rattle.rules.specs.Lexemes.{kindOf, Lexeme, isGap, lexeme, put, tokensFrom, textOf}
+use Rattle.rules.specs.Lexemes.{kindOf, Lexeme, isGap, lexeme, put, tokensBy, tokensFrom, textOf}
 use Rattle.rules.specs.Records.{Record, listing}
 use Rattle.rules.specs.Reader.{Refusal, at, Answer, done, refused, after, arrive, refusedAs}
 use Rattle.rules.specs.Operands.{isWord, isNumber}
@@ -71,9 +71,9 @@ digit-part : (c : ℕ) → isDigit c ≡ true → isWordPart c ≡ true
 unfolding isWordPart
 digit-part c h = go (isLetter c)
   where
-    go : (b : Bool) → b || isDigit c ≡ true
+    go : (b : Bool) → b || isDigit c || is "." c ≡ true
     go true = refl
-    go false = h
+    go false = rw h
 
 -- the first byte of what follows passes no test
 abbrev Stops : (ℕ → Bool) → ℕ → List ℕ → Type 0
@@ -113,7 +113,7 @@ put-beyond p t s xs n b = go (isGap (kindOf t s))
     go false = λ e. absurd (n e)
 
 lead : (p k : ℕ) (s : List ℕ) → Small s → k ≤ length s → Stops isWordPart k s → Beyond (p + k) (tokensFrom p k s)
-unfolding tokensFrom isNumber
+unfolding tokensBy isNumber
 lead p k [] m h o = λ e. absurd (false≢true e)
 lead p (suc k) (c ∷ cs) m h o =
     let g : p + suc k ≡ suc p + k = omega arith in
@@ -134,7 +134,7 @@ put-spaced p t s xs b h = go (isGap (kindOf t s)) xs b h
     go false (y ∷ ys) b h = (λ w v. b w v, h)
 
 spaced : (p k : ℕ) (s : List ℕ) → Small s → k ≤ length s → Spaced (tokensFrom p k s)
-unfolding tokensFrom
+unfolding tokensBy
 spaced p k [] m h = tt
 spaced p (suc k) (c ∷ cs) m h = spaced (suc p) k cs (m .1) (omega arith)
 spaced p zero (c ∷ cs) m h =

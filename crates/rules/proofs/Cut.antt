@@ -11,7 +11,7 @@ use lib.ListN.{length}
 use Rattle.lexer.specs.Text.{if_then_else_, maybe}
 use Rattle.lexer.specs.Tokens.{tokenAt, sizeOf}
 use Rattle.lexer.specs.declared.TokenRead.{TokenRead}
-use Rattle.rules.specs.Lexemes.{newline, Lexeme, isGap, kindOf, put, lexeme, tokensFrom}
+use Rattle.rules.specs.Lexemes.{newline, Lexeme, isGap, kindOf, put, lexeme, tokensBy, tokensFrom}
 use Rattle.rules.specs.Records.{Record, ST, LT, moveRecord}
 use Rattle.rules.specs.Reader.{Refusal, at, nowhere, encoding, Answer, done, refused, Reader, Line, after, thence, _>>=_, _>>_, return, write, refusedAs, arrive, ahead, kind, isLineEnd}
 use Rattle.rules.specs.Statements.{Profile, Row, State, over, inLine, firstOf, enter, rows, push, skip, skipLines, line, content, times, begun, statement, statements, readRows, accepted, refusal, outcome, readFrom}
@@ -83,11 +83,12 @@ skip-blank l (r ∷ rs) {w} {t} h e = go (isLineEnd (l .here .kind)) refl h (λ 
 unfoldable pub rowsFrom : ℕ → List ℕ → List Row
 rowsFrom p s = rows (tokensFrom p 0 s)
 
-pub tokens-finished : (p k : ℕ) (s : List ℕ) → Finished (tokensFrom p k s)
-unfolding tokensFrom isLineEnd
-tokens-finished p k [] = refl
-tokens-finished p (suc k) (c ∷ cs) = tokens-finished (suc p) k cs
-tokens-finished p zero (c ∷ cs) = put-ended p (tokenAt (c ∷ cs)) (c ∷ cs) _ (tokens-finished (suc p) (pred (sizeOf (tokenAt (c ∷ cs)))) cs)
+-- whatever the rule of tokens
+pub tokens-finished : (rule : List ℕ → TokenRead) (p k : ℕ) (s : List ℕ) → Finished (tokensBy rule p k s)
+unfolding tokensBy isLineEnd
+tokens-finished rule p k [] = refl
+tokens-finished rule p (suc k) (c ∷ cs) = tokens-finished rule (suc p) k cs
+tokens-finished rule p zero (c ∷ cs) = put-ended p (rule (c ∷ cs)) (c ∷ cs) _ (tokens-finished rule (suc p) (pred (sizeOf (rule (c ∷ cs)))) cs)
 
 put-count : (p : ℕ) (t : TokenRead) (s : List ℕ) (xs : List Lexeme) → length (put p t s xs) ≤ suc (length xs)
 unfolding put
@@ -97,11 +98,13 @@ put-count p t s xs = go (isGap (kindOf t s))
     go true = omega arith
     go false = omega arith
 
-pub tokens-count : (p k : ℕ) (s : List ℕ) → length (tokensFrom p k s) ≤ suc (length s)
-unfolding tokensFrom
-tokens-count p k [] = omega arith
-tokens-count p (suc k) (c ∷ cs) = omega (arith, tokens-count (suc p) k cs)
-tokens-count p zero (c ∷ cs) = omega (arith, put-count p (tokenAt (c ∷ cs)) (c ∷ cs) (tokensFrom (suc p) (pred (sizeOf (tokenAt (c ∷ cs)))) cs), tokens-count (suc p) (pred (sizeOf (tokenAt (c ∷ cs)))) cs)
+pub tokens-count : (rule : List ℕ → TokenRead) (p k : ℕ) (s : List ℕ) → length (tokensBy rule p k s) ≤ suc (length s)
+unfolding tokensBy
+tokens-count rule p k [] = omega arith
+tokens-count rule p (suc k) (c ∷ cs) = omega (arith, tokens-count rule (suc p) k cs)
+tokens-count rule p zero (c ∷ cs) =
+    let k : ℕ = pred (sizeOf (rule (c ∷ cs))) in
+    omega (arith, put-count p (rule (c ∷ cs)) (c ∷ cs) (tokensBy rule (suc p) k cs), tokens-count rule (suc p) k cs)
 
 push-total : (x : Lexeme) (l : List Row) → total (push x l) ≡ suc (total l)
 unfolding push
@@ -138,19 +141,11 @@ finished-some (x ∷ xs) h = rows-some x xs
 
 pub some-row : (p : ℕ) (s : List ℕ) → Some (rowsFrom p s)
 unfolding rowsFrom
-some-row p s = finished-some (tokensFrom p 0 s) (tokens-finished p 0 s)
+some-row p s = finished-some (tokensFrom p 0 s) (tokens-finished tokenAt p 0 s)
 
 start-below : (n : ℕ) (r : Row) (rs : List Row) → AllEnded (r ∷ rs) → total (r ∷ rs) ≤ suc n → Below n (enter r rs)
 unfolding enter firstOf size
 start-below n r rs a h = record { few = omega arith; ended = a .0; others = a .1 }
-
-all : (p : ℕ) (s : List ℕ) → AllEnded (rowsFrom p s)
-unfolding rowsFrom
-all p s = rows-all (tokensFrom p 0 s) (tokens-finished p 0 s)
-
-count : (p : ℕ) (s : List ℕ) → total (rowsFrom p s) ≤ suc (length s)
-unfolding rowsFrom
-count p s = rw (rows-total (tokensFrom p 0 s)) (tokens-count p 0 s)
 
 unfoldable pub endRow : ℕ → Row
 endRow n = record { first = record { from = n; to = n; kind = newline }; more = [] }
@@ -160,7 +155,7 @@ unfolding endRow isLineEnd
 end-end n = refl
 
 end-rows : (k : ℕ) → rowsFrom k [] ≡ endRow k ∷ []
-unfolding rowsFrom tokensFrom rows isLineEnd endRow
+unfolding rowsFrom tokensBy rows isLineEnd endRow
 end-rows k = refl
 
 module _ (p c : ℕ) (cs : List ℕ) (whole : Lines (c ∷ cs)) where
@@ -224,7 +219,7 @@ zeros l = map (moveRow (λ _. 0)) l
 rows-end : (p : ℕ) (s : List ℕ) → zeros (rowsFrom p (s ++ lineFeed)) ≡ zeros (rowsFrom p s) ++ (endRow 0 ∷ [])
 unfolding rowsFrom lineFeed
 rows-end p s = sym (rows-move (λ _. 0) (tokensFrom p 0 (s ++ (10 ∷ [])))) ∙ ap rows (tokens-end p 0 s zero-le)
-    ∙ rows-append (erase (tokensFrom p 0 s)) (endToken ∷ []) (finished-moved (λ _. 0) (tokensFrom p 0 s) (tokens-finished p 0 s))
+    ∙ rows-append (erase (tokensFrom p 0 s)) (endToken ∷ []) (finished-moved (λ _. 0) (tokensFrom p 0 s) (tokens-finished tokenAt p 0 s))
     ∙ ap₂ (λ (k k′ : List Row). k ++ k′) (rows-move (λ _. 0) (tokensFrom p 0 s)) end-row
 
 blank-append : (l m : List Row) → blankRows (l ++ m) ≡ blankRows l && blankRows m
@@ -379,17 +374,21 @@ module _ (profile : Profile) where
   abbrev pub Gives : ℕ → List ℕ → Answer State (Unit {0}) → Type 0
   Gives p s a = Begins profile (rowsFrom p s) a
 
-  -- THE READING'S COUNTER IS ENOUGH: with it, or more, the reading is the run from its first row.
-  pub gives-with : (p : ℕ) (s : List ℕ) (n : ℕ) → length s ≤ n → Gives p s (readRows profile (suc n) (rowsFrom p s))
+  -- THE READING'S COUNTER IS ENOUGH: with it, or more, the reading is the run from its first row; of any tokens that a line end ends.
+  pub begins-with : (xs : List Lexeme) (n : ℕ) → Finished xs → length xs ≤ suc n → Begins profile (rows xs) (readRows profile (suc n) (rows xs))
   unfolding readRows arrive
-  gives-with p s n f =
-      let (r, rs, e) = some-row p s in
-      rw e (go r rs (refusedAs (r .first .kind)) refl (start-below n r rs (rw e at (all p s)) (omega (arith, ap total (sym e), count p s))))
+  begins-with xs n f h =
+      let (r, rs, e) = finished-some xs f in
+      rw e (go r rs (refusedAs (r .first .kind)) refl (start-below n r rs (rw e at (rows-all xs f)) (omega (arith, ap total (sym e), rows-total xs))))
     where
       go : (r : Row) (rs : List Row) (o : Option ℕ) → refusedAs (r .first .kind) ≡ o → Below n (enter r rs)
           → Begins profile (r ∷ rs) (maybe o (statements profile (suc n) (enter r rs)) (λ k. refused (at k (r .first .from) (r .first .to))))
       go r rs none h b = fine h (enough profile n (enter r rs) b)
       go r rs (some k) h b = broken h
+
+  pub gives-with : (p : ℕ) (s : List ℕ) (n : ℕ) → length s ≤ n → Gives p s (readRows profile (suc n) (rowsFrom p s))
+  unfolding rowsFrom
+  gives-with p s n h = begins-with (tokensFrom p 0 s) n (tokens-finished tokenAt p 0 s) (omega (arith, tokens-count tokenAt p 0 s))
 
   pub gives : (p : ℕ) (s : List ℕ) → Gives p s (readRows profile (suc (length s)) (rowsFrom p s))
   gives p s = gives-with p s (length s) (omega arith)

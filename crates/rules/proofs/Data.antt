@@ -11,6 +11,7 @@ use lib.Dec.{eqb, ltb}
 use lib.ListN.{length, take, drop}
 use borrow.Author.Tests.{eqb-true, eqb-false, ltb-true, ltb-false, leb-true, leb-false}
 use Rattle.lexer.specs.Text.{if_then_else_, maybe, is, among}
+use Rattle.lexer.specs.Tokens.{tokenAt}
 use Rattle.lexer.proofs.Branches.{either}
 use Rattle.rules.specs.Lexemes.{Kind, word, number, quoted, mark, newline, blank, comment, invalid, end, bad, Lexeme, tokensFrom, tokens, nameIn, operationIn}
 use Rattle.names.specs.Names.{directives}
@@ -622,7 +623,7 @@ module _ (p : ℕ) (s : List ℕ) where
   start-on : (r : Row) (rs : List Row) → rows Xs ≡ r ∷ rs → On One (enter r rs)
   unfolding enter firstOf
   start-on r rs e =
-      let all : AllEnded (r ∷ rs) = rw e at (rows-all Xs (tokens-finished p 0 s)) in
+      let all : AllEnded (r ∷ rs) = rw e at (rows-all Xs (tokens-finished tokenAt p 0 s)) in
       record {
         ended = all .0;
         others = all .1;

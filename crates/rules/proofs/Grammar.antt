@@ -12,6 +12,7 @@ use lib.Dec.{ltb, eqb}
 use lib.ListN.{length, length-append}
 use borrow.Author.Tests.{lt-ltb, le-ltb, eqb-true, ltb-true, ltb-false}
 use Rattle.lexer.specs.Text.{if_then_else_, maybe, is, bytes, openText}
+use Rattle.lexer.specs.Tokens.{tokenAt}
 use Rattle.rules.specs.Lexemes.{Kind, word, number, quoted, mark, newline, blank, comment, invalid, end, bad, Lexeme, tokensFrom, tokens, openLexemes}
 use Rattle.rules.specs.Records.{Record, ST, VC, VL, VI, VS, PF, IN, OR, OS, OI, OF, OD, OX, LL, LI, LD, LC, LT}
 use Rattle.rules.specs.Reader.{Refusal, at, nowhere, Answer, done, refused, Reader, Line, after, thence, _>>=_, _>>_, return, write, refuse, refusedAs, arrive, step, next, ahead, kind, passed, left, refuseHere, isMark, isLineEnd, expect}
@@ -799,7 +800,7 @@ left-ended (y ∷ passed) x xs z zs h e =
 
 pub line-ended : {p : ℕ} {s : List ℕ} {line : Line} → LineOf p s line → Ended (line .here) (line .more)
 line-ended {p} {s} {line} o = left-ended (o .passed) (o .row .first) (o .row .more) (line .here) (line .more) (o .split)
-    (all-at (o .above) (o .row) (o .below) (rw (o .among) at (rows-all (tokensFrom p 0 s) (tokens-finished p 0 s))))
+    (all-at (o .above) (o .row) (o .below) (rw (o .among) at (rows-all (tokensFrom p 0 s) (tokens-finished tokenAt p 0 s))))
 
 none-at : (k : Kind) → ((op : ℕ) → operatorOf k ≡ some op → leftLevel op < 0) → operatorOf k ≡ none
 none-at k h = go (operatorOf k) h

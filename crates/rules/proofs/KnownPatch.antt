@@ -42,6 +42,9 @@ cases =
     ∷ case ";times 2\nb" (ST 9 ∷ LL 9 10 ∷ []) 9 "c" 1000 (become ";times 2\nc" (ST 9 ∷ LL 9 10 ∷ []))
     ∷ case "b" (ST 0 ∷ LL 0 1 ∷ []) 0 "times 1 times 1 times 1 times 1 times 1 times 1 times 1 times 1 times 1 times 1 times 1 times 1 times 1 times 1 times 1 times 1" 1000 (refuses (nowhere 40))
     ∷ case "b" (ST 0 ∷ LL 0 1 ∷ []) 0 "times 1 times 1 times 1 times 1 times 1 times 1 times 1 times 1 times 1 times 1 times 1 times 1 times 1 times 1 times 1 times 1 times 1" 1000 (refuses (at 5 128 133))
+    -- a name with a dot is the whole count of a `times`
+    ∷ case "times a.b\nb" [] 10 "c" 1000 (refuses (nowhere 40))
+    ∷ case "w12 equ 5\n" (ST 0 ∷ LL 0 3 ∷ ST 4 ∷ VC 8 9 5 ∷ LC 4 9 ∷ []) 0 "w12.a equ 5" 1000 (become "w12.a equ 5\n" (ST 0 ∷ LL 0 5 ∷ ST 6 ∷ VC 10 11 5 ∷ LC 6 11 ∷ []))
     -- A line is read alone by the full read, which refuses it with 2 before it looks for a content: it leaves no `times` open. 2 itself is
     -- about the edited source.
     ∷ case "times 2;\u{80}" [] 0 "" 1000 (become "" [])
@@ -62,7 +65,7 @@ Patches (c ∷ cs) = (patch present (bytes (c .old)) (listing (c .records)) (c .
 
 pub patches : Patches cases
 unfolding openPatch spellings row rowsOf operations case become cases Patches
-patches = (refl, (refl, (refl, (refl, (refl, (refl, (refl, (refl, (refl, (refl, (refl, (refl, (refl, (refl, (refl, (refl, (refl, tt)))))))))))))))))
+patches = (refl, (refl, (refl, (refl, (refl, (refl, (refl, (refl, (refl, (refl, (refl, (refl, (refl, (refl, (refl, (refl, (refl, (refl, (refl, tt)))))))))))))))))))
 
 -- A line that is too long, in the place of `nop`: it is 1, as the full read of the edited source is.
 unfoldable pub blanks : ℕ → List ℕ

@@ -16,7 +16,7 @@ use Rattle.lexer.specs.declared.TokenRead.the-variants.{Read, Refused}
 use Rattle.lexer.proofs.Branches.{either}
 use Rattle.lexer.proofs.TokensLine.{Lines, lines-tail, tokenAt-line, tokenAt-local}
 use Rattle.lexer.proofs.TokensText.{tokenAt-le, tokenAt-fits}
-use Rattle.rules.specs.Lexemes.{word, quoted, newline, kindOf, Lexeme, isGap, lexeme, put, tokensFrom, openLexemes}
+use Rattle.rules.specs.Lexemes.{word, quoted, newline, kindOf, Lexeme, isGap, lexeme, put, tokensBy, tokensFrom, openLexemes}
 use Rattle.rules.specs.Reader.{isLineEnd}
 use Rattle.rules.proofs.Move.{moveToken}
 
@@ -67,7 +67,7 @@ put-append p t c cs z xs ys h = rw (kind-append t c cs z h) (go (isGap (kindOf t
 
 -- THE LAW.
 pub tokens-split : (p k : ℕ) (s z : List ℕ) → Apart s z → k ≤ length s → tokensFrom p k (s ++ z) ≡ tokensWithin p k s ++ tokensFrom (p + length s) 0 z
-unfolding tokensFrom tokensWithin
+unfolding tokensBy tokensWithin
 tokens-split p zero [] z a h =
     let i : p + 0 ≡ p = omega arith in
     rw i
@@ -90,7 +90,7 @@ abbrev pub stop : ℕ → ℕ → Lexeme
 stop p q = record { from = p; to = q; kind = newline }
 
 pub tokens-alone : (p k : ℕ) (s : List ℕ) → k ≤ length s → tokensFrom p k s ≡ tokensWithin p k s ++ (stop (p + length s) (p + length s) ∷ [])
-unfolding tokensFrom
+unfolding tokensBy
 tokens-alone p k s h = ap (tokensFrom p k) (sym (append-nil s)) ∙ tokens-split p k s [] (apart-end s) h
 
 feed-tokens : (p : ℕ) → tokensFrom p 0 (10 ∷ []) ≡ stop p (p + 1) ∷ stop (p + 1) (p + 1) ∷ []
@@ -126,7 +126,7 @@ put-shift q p t s xs = go (isGap (kindOf t s))
         rw e
 
 pub tokens-shift : (q p k : ℕ) (s : List ℕ) → tokensFrom (q + p) k s ≡ map (moveToken (λ n. q + n)) (tokensFrom p k s)
-unfolding tokensFrom moveToken
+unfolding tokensBy moveToken
 tokens-shift q p k [] = refl
 tokens-shift q p (suc k) (c ∷ cs) =
     let e : suc (q + p) ≡ q + suc p = omega arith in
@@ -137,7 +137,7 @@ tokens-shift q p zero (c ∷ cs) =
 
 -- The tokens from a place on, k bytes further: what ties the list to a reader's place in the source.
 pub tokens-skip : (p k : ℕ) (s : List ℕ) → k ≤ length s → tokensFrom p k s ≡ tokensFrom (p + k) 0 (drop k s)
-unfolding tokensFrom
+unfolding tokensBy
 tokens-skip p zero s h =
     let e : p + 0 ≡ p = omega arith in
     rw e

@@ -35,3 +35,5 @@ pub mod Numbers
 pub mod OneRow
 pub mod Data
 pub mod WideRefused
+pub mod DotsStay
+pub mod Dots

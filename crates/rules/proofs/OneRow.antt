@@ -11,7 +11,7 @@ use Rattle.lexer.specs.Text.{if_then_else_, among, is, within, anyOf, isBlank, 
 use Rattle.lexer.specs.Tokens.{largest, numeral, stray, prefixed, digits, inBase, suffixed, numberAt, stringAfter, inComment, mark, markAt, tokenAt, sizeOf}
 use Rattle.lexer.specs.declared.TokenRead.{TokenRead}
 use Rattle.lexer.proofs.Branches.{either, given}
-use Rattle.rules.specs.Lexemes.{kindOf, Lexeme, isGap, lexeme, put, tokensFrom}
+use Rattle.rules.specs.Lexemes.{kindOf, Lexeme, isGap, lexeme, put, tokensBy, tokensFrom}
 use Rattle.rules.specs.Reader.{isLineEnd}
 use Rattle.rules.specs.Statements.{Row, rows, push}
 use Rattle.rules.specs.Claims.{Each}
@@ -102,7 +102,7 @@ put-single p t s xs e h = either (λ (l : List Lexeme). Single (rows l)) (isGap 
 
 -- THE LAW.
 pub one-row : (p k : ℕ) (s : List ℕ) → Feedless s → Single (rows (tokensFrom p k s))
-unfolding tokensFrom rows among isLineEnd
+unfolding tokensBy rows among isLineEnd
 one-row p k [] h = tt
 one-row p (suc k) (c ∷ cs) h = one-row (suc p) k cs (or-split (eqb 10 c) (among 10 cs) h .1)
 one-row p zero (c ∷ cs) h =

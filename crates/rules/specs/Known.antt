@@ -5,11 +5,13 @@ use Prim.Native.Nat.{ℕ}
 use Prim.Native.String.{String}
 use lib.IntN.{ℤ, pos, negsuc}
 use Rattle.lexer.specs.Text.{bytes}
+use Rattle.lexer.specs.Dots.{plainToken, openDots}
 use Rattle.names.specs.Table.{operations, spellings, row, rowsOf}
 use Rattle.rules.specs.Statements.{present}
-use Rattle.rules.specs.Records.{Record, ST, VC, VL, VS, PF, IN, OR, OI, OF, OX, LL, LI, LD, LC, LT}
+use Rattle.rules.specs.Records.{Record, ST, VC, VL, VS, PF, IN, OR, OI, OF, OD, OX, LL, LI, LD, LC, LT}
 use Rattle.rules.specs.Reader.{at, nowhere, encoding}
-use Rattle.rules.specs.Calls.{Result, gives, refuses, fullRead, enough, openCalls}
+use Rattle.rules.specs.Calls.{Result, gives, refuses, fullRead, enough, found, statementCall, openCalls}
+use Rattle.rules.specs.Dots.{fullBy, statementBy}
 use Rattle.rules.specs.Evaluate.{evaluate, openEvaluate}
 
 pub record Sample : Type 0 where
@@ -113,6 +115,57 @@ counts =
 pub counts-known : Agree counts
 unfolding openCalls spellings row rowsOf operations counts read wanted Agree
 counts-known = (refl, (refl, (refl, (refl, (refl, (refl, (refl, (refl, (refl, (refl, (refl, (refl, (refl, (refl, (refl, (refl, (refl, tt)))))))))))))))))
+
+-- Names with dots as labels, document 02, Ask 2.
+unfoldable pub dots : List Sample
+dots =
+    "w12.a equ 5" reads gives (ST 0 ∷ LL 0 5 ∷ ST 6 ∷ VC 10 11 5 ∷ LC 6 11 ∷ [])
+    ∷ "a." reads gives (ST 0 ∷ LL 0 2 ∷ [])
+    ∷ "a..b" reads gives (ST 0 ∷ LL 0 4 ∷ [])
+    ∷ "a.b:" reads gives (ST 0 ∷ LL 0 3 ∷ [])
+    ∷ "a.:" reads gives (ST 0 ∷ LL 0 2 ∷ [])
+    ∷ "a.5h" reads gives (ST 0 ∷ LL 0 4 ∷ [])
+    ∷ "a. b" reads gives (ST 0 ∷ LL 0 2 ∷ ST 3 ∷ LL 3 4 ∷ [])
+    -- a dot behind anything else starts a token
+    ∷ ".a" reads refuses (at 20 0 1)
+    ∷ "a .b" reads refuses (at 20 2 3)
+    ∷ "1.a" reads refuses (at 20 0 1)
+    ∷ "db 1.a" reads refuses (at 15 4 5)
+    ∷ "equ $.a" reads refuses (at 10 5 6)
+    ∷ []
+
+pub dots-known : Agree dots
+unfolding openCalls spellings row rowsOf operations dots read wanted Agree
+dots-known = (refl, (refl, (refl, (refl, (refl, (refl, (refl, (refl, (refl, (refl, (refl, (refl, tt))))))))))))
+
+-- Lookup is of the whole name, in operands, expressions and statements.
+unfoldable pub dotted : List Sample
+dotted =
+    "in ax.b" reads gives (ST 0 ∷ VL 3 7 ∷ OI 3 7 ∷ LI 0 7 4 1 3 7 ∷ [])
+    ∷ "in byte." reads gives (ST 0 ∷ VL 3 8 ∷ OI 3 8 ∷ LI 0 8 4 1 3 8 ∷ [])
+    ∷ "in [bx.a]" reads gives (ST 0 ∷ VL 4 8 ∷ OD 3 9 0 0 ∷ LI 0 9 4 1 3 9 ∷ [])
+    ∷ "in [es.x:1]" reads refuses (at 13 8 9)
+    ∷ "in [.a]" reads refuses (at 24 4 5)
+    ∷ "mov.x ax" reads gives (ST 0 ∷ LL 0 5 ∷ ST 6 ∷ LL 6 8 ∷ [])
+    ∷ "k equ.5" reads gives (ST 0 ∷ LL 0 1 ∷ ST 2 ∷ LL 2 7 ∷ [])
+    -- in expressions, and behind a number
+    ∷ "equ 2*w.1-w." reads gives (ST 0 ∷ VC 4 5 2 ∷ VL 6 9 ∷ IN 4 9 2 ∷ VL 10 12 ∷ IN 4 12 1 ∷ LC 0 12 ∷ [])
+    ∷ "times a.b" reads refuses (at 34 0 5)
+    ∷ "times 0b.1" reads gives (ST 0 ∷ VC 6 7 0 ∷ LL 7 10 ∷ LT ∷ [])
+    ∷ "times 10b.x" reads refuses (at 20 9 10)
+    ∷ "times 1bh.x" reads gives (ST 0 ∷ VC 6 8 1 ∷ LL 8 11 ∷ LT ∷ [])
+    ∷ []
+
+pub dotted-known : Agree dotted
+unfolding openCalls spellings row rowsOf operations dotted read wanted Agree
+dotted-known = (refl, (refl, (refl, (refl, (refl, (refl, (refl, (refl, (refl, (refl, (refl, (refl, tt))))))))))))
+
+-- That only refused sources change is true of the full read. `;a.b` is accepted, before and now, and its statement at place 1 is another now.
+pub inside-a-comment : (fullRead present (bytes ";a.b") 0 ≡ gives []) × (fullBy plainToken present (bytes ";a.b") 0 ≡ gives [])
+    × (statementCall present (bytes ";a.b") 1 100 ≡ gives (found (ST 1 ∷ LL 1 4 ∷ []) 4))
+    × (statementBy plainToken present (bytes ";a.b") 1 100 ≡ gives (found (ST 1 ∷ LL 1 2 ∷ []) 2))
+unfolding openCalls openDots fullBy statementBy spellings row rowsOf operations
+inside-a-comment = (refl, refl, refl, refl)
 
 -- Samples of `evaluate`: an operator's number, two numbers, the answer.
 pub record Evaluation : Type 0 where

@@ -100,12 +100,15 @@ lexeme p t s = record { from = p; to = p + sizeOf t; kind = kindOf t s }
 unfoldable pub put : ℕ → TokenRead → List ℕ → List Lexeme → List Lexeme
 put p t s rest = if isGap (kindOf t s) then rest else (lexeme p t s ∷ rest)
 
--- The tokens of the bytes from place p on, of which the first k belong to a token that is already read. The source's end stands among
--- them as a line end of no bytes.
-unfoldable pub tokensFrom : ℕ → ℕ → List ℕ → List Lexeme
-tokensFrom p k [] = record { from = p; to = p; kind = newline } ∷ []
-tokensFrom p (suc k) (c ∷ cs) = tokensFrom (suc p) k cs
-tokensFrom p zero (c ∷ cs) = let t : TokenRead = tokenAt (c ∷ cs) in put p t (c ∷ cs) (tokensFrom (suc p) (pred (sizeOf t)) cs)
+-- The tokens of the bytes from place p on, by the rule that gives the one at the head of bytes. The first k bytes belong to a token that is
+-- already read. The source's end stands among them as a line end of no bytes.
+unfoldable pub tokensBy : (List ℕ → TokenRead) → ℕ → ℕ → List ℕ → List Lexeme
+tokensBy rule p k [] = record { from = p; to = p; kind = newline } ∷ []
+tokensBy rule p (suc k) (c ∷ cs) = tokensBy rule (suc p) k cs
+tokensBy rule p zero (c ∷ cs) = let t : TokenRead = rule (c ∷ cs) in put p t (c ∷ cs) (tokensBy rule (suc p) (pred (sizeOf t)) cs)
+
+abbrev pub tokensFrom : ℕ → ℕ → List ℕ → List Lexeme
+tokensFrom p k s = tokensBy tokenAt p k s
 
 unfoldable pub tokens : List ℕ → List Lexeme
 tokens source = tokensFrom 0 0 source
@@ -131,5 +134,5 @@ unfoldable pub operationIn : List ℕ → Kind → Option ℕ
 operationIn table k = maybe (textOf k) none (operationNamed table)
 
 unfoldable pub openLexemes : Unit {0}
-unfolding openText openTokens isGap lexeme put tokensFrom tokens textOf nameIn operationIn named operationNamed registers segments sizes directives placeFrom spelling operationFrom
+unfolding openText openTokens isGap lexeme put tokensBy tokens textOf nameIn operationIn named operationNamed registers segments sizes directives placeFrom spelling operationFrom
 openLexemes = tt

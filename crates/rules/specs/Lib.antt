@@ -9,6 +9,7 @@ pub mod Evaluate
 pub mod Decode
 pub mod WellFormed
 pub mod Patch
+pub mod Dots
 pub mod Known
 pub mod Grammar
 pub mod Claims

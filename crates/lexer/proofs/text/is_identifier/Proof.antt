@@ -1,6 +1,6 @@
 -- The code is the definition, by calls.
 use borrow.Author.Needs.{needs}
-use Rattle.lexer.specs.Text.{isWordPart}
+use Rattle.lexer.specs.Text.{is, isWordPart}
 use Rattle.lexer.proofs.text.is_identifier.Statement.{statement}
 use Rattle.lexer.proofs.text.is_identifier.Tie as tie
 
@@ -11,7 +11,7 @@ is-decimal-digit-requires : tie.Need-is-decimal-digit-requires
 is-decimal-digit-requires c κs = search needs
 
 returns : tie.Need-returns
-unfolding isWordPart
+unfolding isWordPart is
 returns c = rw (c .before .is-identifier-first .ensures, c .is-decimal-digit .ensures)
 
 pub is-identifier-spec : {M : Type 1} → statement M

@@ -1,0 +1,39 @@
+-- Dots in names, and which tokens they change. Document 02, Ask 2: after its first character a name may hold a dot; a dot that starts a token
+-- stays punctuation. The rule itself is `isWordPart`, in Text.
+use mathlib.Core.Path.{_≡_}
+use mathlib.Core.Bool.{Bool, true, false, _&&_, _||_}
+use mathlib.Core.List.{List, [], _∷_}
+use Prim.Native.Nat.{ℕ, suc, _<_}
+use Prim.Native.Char.{code}
+use lib.ListN.{getD}
+use Rattle.lexer.specs.Text.{if_then_else_, is, isDigit, isLetter, run}
+use Rattle.lexer.specs.Tokens.{mark, tokenAt, sizeOf}
+use Rattle.lexer.specs.declared.PunctuationKind.the-variants.{Dot}
+use Rattle.lexer.specs.declared.Token.the-variants.{Identifier}
+use Rattle.lexer.specs.declared.TokenRead.{TokenRead}
+use Rattle.lexer.specs.declared.TokenRead.the-variants.{Read}
+
+-- The token by document 01 alone, and by the Rust: a name goes on with letters, digits and `_`. Nothing is read so; it is here to be compared
+-- with.
+unfoldable pub isPlainPart : ℕ → Bool
+isPlainPart c = isLetter c || isDigit c
+
+unfoldable pub plainToken : List ℕ → TokenRead
+plainToken [] = tokenAt []
+plainToken (c ∷ cs) = if isLetter c then Read (Identifier (suc (run isPlainPart cs))) else tokenAt (c ∷ cs)
+
+-- Bytes begin with such a name, and a dot follows it directly.
+unfoldable pub dotFollows : List ℕ → Bool
+dotFollows [] = false
+dotFollows (c ∷ cs) = isLetter c && is "." (getD cs (run isPlainPart cs) 0)
+
+-- THE TOKENS THAT CHANGE are the names that a dot follows directly: they are longer. A dot that starts a token is punctuation, whatever stands
+-- behind it.
+pub record DottedNames : Type 0 where
+  pub longer : (s : List ℕ) → dotFollows s ≡ true → sizeOf (plainToken s) < sizeOf (tokenAt s)
+  pub others : (s : List ℕ) → dotFollows s ≡ false → tokenAt s ≡ plainToken s
+  pub starts : (s : List ℕ) → tokenAt (code "." ∷ s) ≡ mark Dot
+
+unfoldable pub openDots : Unit {0}
+unfolding isPlainPart plainToken dotFollows
+openDots = tt

@@ -1,0 +1,145 @@
+-- Dots in names. Where none follows a name directly, both rules give the same tokens; where one does, the old rule gives a dot, which no reading
+-- accepts.
+use mathlib.Core.Path.{_≡_, refl, sym, ap, _∙_}
+use mathlib.Core.Bool.{Bool, true, false, _||_, true≢false, false≢true}
+use mathlib.Core.List.{List, [], _∷_}
+use mathlib.Core.Logic.{⊎-elim}
+use mathlib.Core.Option.{Option, none, some}
+use Prim.Native.Nat.{ℕ, zero, suc, pred}
+use Prim.Native.Char.{code}
+use lib.ListN.{length, drop, getD}
+use borrow.Author.Tests.{eqb-true}
+use Rattle.lexer.specs.Text.{if_then_else_, maybe, is, isLetter, run, openText}
+use Rattle.lexer.specs.Tokens.{tokenAt, sizeOf, openTokens}
+use Rattle.lexer.specs.Dots.{isPlainPart, plainToken, dotFollows}
+use Rattle.lexer.specs.declared.TokenRead.{TokenRead}
+use Rattle.lexer.proofs.Branches.{either, and-split}
+use Rattle.lexer.proofs.Dots.{dotted-names}
+use Rattle.lexer.proofs.Runs.{one-of}
+use Rattle.rules.specs.Lexemes.{kindOf, Lexeme, isGap, lexeme, put, tokensBy, openLexemes}
+use Rattle.rules.specs.Records.{Record}
+use Rattle.rules.specs.Reader.{Refusal, at, nowhere, Answer, isMark, isLineEnd}
+use Rattle.rules.specs.Statements.{Profile, Row, State, push, rows, Outcome, outcome, readRows, readFrom, reading}
+use Rattle.rules.specs.Calls.{Result, gives, refuses, unless, tooLong, foreign, ascii, lent, lentAt, tokenRead, tokenCall, listed, fullRead, oneFound, oneRead, statementCall}
+use Rattle.rules.specs.Dots.{dotBehindName, tokenBy, statementBy, fullBy, ByRule, SameWithoutDots, OnlyRefused}
+use Rattle.rules.proofs.TokenKinds.{mark-inside}
+use Rattle.rules.proofs.Cut.{tokens-finished, tokens-count, begins-with}
+use Rattle.rules.proofs.DotsStay.{Dotted, here, further, Beneath, first, later, Denied, begins-denied}
+
+or-false : (a b : Bool) → a || b ≡ false → (a ≡ false) × (b ≡ false)
+or-false true b h = absurd (true≢false h)
+or-false false b h = (refl, h)
+
+-- The same tokens.
+tokens-same : (p k : ℕ) (s : List ℕ) → dotBehindName k s ≡ false → tokensBy tokenAt p k s ≡ tokensBy plainToken p k s
+unfolding tokensBy dotBehindName
+tokens-same p k [] h = refl
+tokens-same p (suc k) (c ∷ cs) h = tokens-same (suc p) k cs h
+tokens-same p zero (c ∷ cs) h =
+    let (a, b) = or-false (dotFollows (c ∷ cs)) _ h in
+    let t : TokenRead = plainToken (c ∷ cs) in
+    rw (dotted-names .others (c ∷ cs) a) (ap (put p t (c ∷ cs)) (tokens-same (suc p) (pred (sizeOf t)) cs b))
+
+-- A dot among tokens.
+data HasDot : List Lexeme → Type 0 where
+  head : {x : Lexeme} {xs : List Lexeme} → isMark "." (x .kind) ≡ true → HasDot (x ∷ xs)
+  tail : {x : Lexeme} {xs : List Lexeme} → HasDot xs → HasDot (x ∷ xs)
+
+put-dot : (p : ℕ) (t : TokenRead) (s : List ℕ) (xs : List Lexeme) → HasDot xs → HasDot (put p t s xs)
+unfolding put
+put-dot p t s xs h = either HasDot (isGap (kindOf t s)) xs (lexeme p t s ∷ xs) h (tail h)
+
+-- The byte behind k others is a dot, and begins a token.
+dot-token : (p : ℕ) (cs : List ℕ) (xs : List Lexeme) → HasDot (put p (plainToken (code "." ∷ cs)) (code "." ∷ cs) xs)
+unfolding openLexemes plainToken isMark
+dot-token p cs xs = head refl
+
+dot-ahead : (p k : ℕ) (cs : List ℕ) → is "." (getD cs k 0) ≡ true → HasDot (tokensBy plainToken p k cs)
+unfolding tokensBy is
+dot-ahead p zero [] h = absurd (false≢true h)
+dot-ahead p (suc k) [] h = absurd (false≢true h)
+dot-ahead p zero (c ∷ cs) h = rw (eqb-true c (code ".") h) (dot-token p cs _)
+dot-ahead p (suc k) (c ∷ cs) h = dot-ahead (suc p) k cs h
+
+-- what stands behind the first token
+abbrev behindFirst : ℕ → ℕ → List ℕ → List Lexeme
+behindFirst p c cs = tokensBy plainToken (suc p) (pred (sizeOf (plainToken (c ∷ cs)))) cs
+
+name-dotted : (p c : ℕ) (cs : List ℕ) → dotFollows (c ∷ cs) ≡ true → HasDot (behindFirst p c cs)
+unfolding dotFollows plainToken
+name-dotted p c cs e =
+    let (l, d) = and-split (isLetter c) _ e in
+    rw l (dot-ahead (suc p) (run isPlainPart cs) cs d)
+
+tokens-dotted : (p k : ℕ) (s : List ℕ) → dotBehindName k s ≡ true → HasDot (tokensBy plainToken p k s)
+unfolding tokensBy dotBehindName
+tokens-dotted p k [] h = absurd (false≢true h)
+tokens-dotted p (suc k) (c ∷ cs) h = tokens-dotted (suc p) k cs h
+tokens-dotted p zero (c ∷ cs) h = put-dot p (plainToken (c ∷ cs)) (c ∷ cs) _ (⊎-elim (name-dotted p c cs) (λ i. tokens-dotted (suc p) _ cs i) (one-of (dotFollows (c ∷ cs)) _ h))
+
+-- In rows.
+push-head : (x : Lexeme) (l : List Row) → isMark "." (x .kind) ≡ true → Beneath (push x l)
+unfolding push
+push-head x [] h = first (here h)
+push-head x (r ∷ rs) h = first (here h)
+
+push-tail : (x : Lexeme) {l : List Row} → isLineEnd (x .kind) ≡ false → Beneath l → Beneath (push x l)
+unfolding push
+push-tail x e (first d) = first (further e d)
+push-tail x e (later b) = later b
+
+rows-dotted : {xs : List Lexeme} → HasDot xs → Beneath (rows xs)
+unfolding rows
+rows-dotted (head {x} {xs} h) = rw (mark-inside "." (x .kind) h) (push-head x (rows xs) h)
+rows-dotted (tail {x} {xs} h) = go (isLineEnd (x .kind)) refl (rows-dotted h)
+  where
+    go : (b : Bool) → isLineEnd (x .kind) ≡ b → Beneath (rows xs) → Beneath (if b then (record { first = x; more = [] } ∷ rows xs) else (push x (rows xs)))
+    go true e i = later i
+    go false e i = push-tail x e i
+
+module _ (profile : Profile) where
+  pub by-rule : ByRule profile
+  unfolding tokenCall statementCall fullRead reading readFrom tokenBy statementBy fullBy
+  by-rule = record { ofToken = λ source p. refl; ofStatement = λ source p room. refl; ofFullRead = λ source room. refl }
+
+  same-read : (source : List ℕ) (room : ℕ) → dotBehindName 0 source ≡ false → fullRead profile source room ≡ fullBy plainToken profile source room
+  unfolding fullBy
+  same-read source room h = by-rule .ofFullRead source room
+      ∙ ap (λ (xs : List Lexeme). lent source (listed room (outcome (readRows profile (suc (length source)) (rows xs))))) (tokens-same 0 0 source h)
+
+  -- NOTHING ELSE CHANGES.
+  pub same-without-dots : SameWithoutDots profile
+  unfolding tokenBy statementBy
+  same-without-dots = record {
+    ofToken = λ source p h. by-rule .ofToken source p ∙ ap (λ (t : TokenRead). lentAt source p (tokenRead p t)) (dotted-names .others (drop p source) h);
+    ofStatement = λ source p room h. by-rule .ofStatement source p room
+        ∙ ap (λ (xs : List Lexeme). lentAt source p (oneFound room (oneRead profile (rows xs)))) (tokens-same p 0 (drop p source) h);
+    ofFullRead = same-read;
+  }
+
+  -- What the reading refuses the call refuses.
+  lent-denied : (source : List ℕ) (room : ℕ) (a : Answer State (Unit {0})) → Denied profile a → (r : Refusal) × (lent source (listed room (outcome a)) ≡ refuses r)
+  unfolding lent unless ascii listed outcome
+  lent-denied source room a (r, e) = rw e (go (tooLong source) (foreign 0 source))
+    where
+      go : (b : Bool) (o : Option ℕ)
+          → (c : Refusal) × (_≡_ {A = Result (List Record)} (if b then (refuses (nowhere 1)) else (maybe o (refuses r) (λ p. refuses (at 2 p (suc p))))) (refuses c))
+      go true o = (nowhere 1, refl)
+      go false none = (r, refl)
+      go false (some p) = (at 2 p (suc p), refl)
+
+  dot-refused : (source : List ℕ) (room : ℕ) → dotBehindName 0 source ≡ true → (r : Refusal) × (fullBy plainToken profile source room ≡ refuses r)
+  unfolding fullBy
+  dot-refused source room h =
+      let xs : List Lexeme = tokensBy plainToken 0 0 source in
+      lent-denied source room (readRows profile (suc (length source)) (rows xs))
+      (begins-denied profile (begins-with profile xs (length source) (tokens-finished plainToken 0 0 source) (tokens-count plainToken 0 0 source)) (rows-dotted (tokens-dotted 0 0 source h)))
+
+  -- ONLY SOURCES THAT WERE REFUSED CHANGE.
+  pub only-refused : OnlyRefused profile
+  only-refused = record { accepted = λ source before room w h. kept source before room w h (dotBehindName 0 source) refl; refused = dot-refused }
+    where
+      kept : (source : List ℕ) (before room : ℕ) (w : List Record) → fullBy plainToken profile source before ≡ gives w → (b : Bool) → dotBehindName 0 source ≡ b
+          → fullRead profile source room ≡ fullBy plainToken profile source room
+      kept source before room w h true e = let (r, i) = dot-refused source before e in absurd (true≢false cc)
+      kept source before room w h false e = same-read source room e
