@@ -43,10 +43,15 @@ pub fn is_identifier_first(c: u8) -> bool
     ((b'a' <= c) & (c <= b'z')) | ((b'A' <= c) & (c <= b'Z')) | (c == b'_')
 }
 
+// A letter is asked for first, since most of a name is letters.
 pub fn is_identifier(c: u8) -> bool
     ensures { λ r. ⌜ r ≡ isWordPart c ⌝ }
 {
-    is_identifier_first(c) | is_decimal_digit(c) | (c == b'.')
+    if is_identifier_first(c) {
+        true
+    } else {
+        is_decimal_digit(c) | (c == b'.')
+    }
 }
 
 // A letter, small or capital.

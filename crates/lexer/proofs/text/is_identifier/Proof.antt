@@ -1,4 +1,5 @@
--- The code is the definition, by calls.
+-- The code is the definition, by calls: a letter is asked first, and else the others.
+use mathlib.Core.Path.{sym, _∙_}
 use borrow.Author.Needs.{needs}
 use Rattle.lexer.specs.Text.{is, isWordPart}
 use Rattle.lexer.proofs.text.is_identifier.Statement.{statement}
@@ -12,7 +13,11 @@ is-decimal-digit-requires c κs = search needs
 
 returns : tie.Need-returns
 unfolding isWordPart is
-returns c = rw (c .before .is-identifier-first .ensures, c .is-decimal-digit .ensures)
+returns c = rw (sym (c .before .is-identifier-first .ensures) ∙ c .if1 .taken)
+
+returns-2 : tie.Need-returns-2
+unfolding isWordPart is
+returns-2 c = rw (sym (c .before .before .is-identifier-first .ensures) ∙ c .before .if1 .left, c .is-decimal-digit .ensures)
 
 pub is-identifier-spec : {M : Type 1} → statement M
-is-identifier-spec = tie.close (tie.spec is-identifier-first-requires is-decimal-digit-requires returns)
+is-identifier-spec = tie.close (tie.spec is-identifier-first-requires is-decimal-digit-requires returns returns-2)
