@@ -104,7 +104,7 @@ fn text(source: &[u8]) -> &str {
 /// be met there any more.
 fn parted(source: &str, place: usize, part: Part, base: impl Fn() -> Option<Refusal>) -> Option<Why> {
     let name = dotted_name(source, place, part);
-    let limit = |refusal: Refusal| matches!(refusal.number, 3 | 5) && name.is_none_or(|name| ends_before(&Err(refusal), name));
+    let limit = |refusal: Refusal| matches!(refusal.number, 3 | 5) && name.is_none_or(|name| ends_before(Err(refusal), name));
     if wide_number(&source[place..], part) {
         Some(Why::WideNumber)
     } else if base().is_some_and(limit) {
@@ -132,12 +132,12 @@ fn dotted_name(source: &str, place: usize, part: Part) -> Option<Span> {
     met.then(|| Span { from: place + seen[at].from, to: place + seen[at].to })
 }
 
-/// Whether the original's answer, a refusal or the place of the token ahead, is given before the reading looks at a name or goes on behind
-/// it. The rules answer the same just then: up to there the tokens are the same ones; and beyond, the original's answer has the span of the
-/// name or of the dot in it, where they have no token.
-fn ends_before(answer: &Result<usize, Refusal>, name: Span) -> bool {
+/// Whether the original's answer, a refusal or the place of the token ahead, tells neither of the first name that a dot follows nor of what
+/// stands behind it. The rules give the same answer just then: up to that name the tokens are theirs; the name itself is a longer one, and
+/// names nothing; and the dot, at which the original's reading ends at the latest, is no token of theirs.
+fn ends_before(answer: Result<usize, Refusal>, name: Span) -> bool {
     match answer {
-        Ok(ahead) => *ahead <= name.from,
+        Ok(ahead) => ahead <= name.from,
         Err(Refusal { span, .. }) => span.from < name.from && span.to <= name.from,
     }
 }
@@ -264,10 +264,8 @@ impl Asked {
         let why = left_out_statement(source, place);
         self.add(why);
         let now = statement_read_beside(source, place, why);
-        if why != Some(Why::DottedName) {
-            return;
-        }
-        if let Some(other) = readable(source).and_then(|source| underscored(source, place)) {
+        if why == Some(Why::DottedName) {
+            let other = underscored(text(source), place).unwrap();
             let other = other.as_bytes();
             let why = left_out_statement(other, place);
             self.underscored += why.is_none() as u64;
@@ -313,16 +311,16 @@ fn full_read_beside(source: &[u8], why: Option<Why>) -> Answer {
     let said = original::read(source);
     let name = dotted_name(text, 0, Part::Whole);
     assert!(name.is_none() || said.is_err(), "{}: the original accepts a dot", shown());
-    let alike = alike(why, name, || said.as_ref().map(|_| source.len()).map_err(|refusal| *refusal));
+    let alike = alike(why, name, said.as_ref().map(|_| source.len()).map_err(|refusal| *refusal));
     assert_parted(&said, &Rules::ORIGINAL.full_read(source), &Rules::BASE.full_read(source), &now, why, alike, shown);
     now
 }
 
 /// What a statement read answers: the records and the place of the token ahead, or that none is left.
-type StatementAnswer = Result<Option<(Vec<u8>, usize)>, Refusal>;
+type StatementRead = Result<Option<(Vec<u8>, usize)>, Refusal>;
 
 /// The same of the statement at a place.
-fn statement_read_beside(source: &[u8], place: usize, why: Option<Why>) -> StatementAnswer {
+fn statement_read_beside(source: &[u8], place: usize, why: Option<Why>) -> StatementRead {
     let now = Rules::NOW.statement_read(source, place);
     let shown = || format!("{} at {place}", source.escape_ascii());
     let Some(text) = readable(source) else {
@@ -335,9 +333,9 @@ fn statement_read_beside(source: &[u8], place: usize, why: Option<Why>) -> State
     }
     let name = dotted_name(text, place, Part::OneStatement);
     let ahead = |found: &Option<(Vec<u8>, usize)>| found.as_ref().map_or(source.len(), |(_, ahead)| *ahead);
-    let alike = alike(why, name, || model.as_ref().map(ahead).map_err(|refusal| *refusal));
+    let alike = alike(why, name, model.as_ref().map(ahead).map_err(|refusal| *refusal));
     assert!((now == model) == alike, "{}: left out: {why:?}\nmodel of the original {model:?}\nthe rules {now:?}", shown());
-    let records = |read: &StatementAnswer| read.clone().map(|found| found.map_or(Vec::new(), |(records, _)| records));
+    let records = |read: &StatementRead| read.clone().map(|found| found.map_or(Vec::new(), |(records, _)| records));
     let said = original::read_statement(source, place);
     let base = Rules::BASE.statement_read(source, place);
     assert_parted(&said, &records(&model), &records(&base), &records(&now), why, alike, shown);
@@ -345,10 +343,10 @@ fn statement_read_beside(source: &[u8], place: usize, why: Option<Why>) -> State
 }
 
 /// Whether the rules must answer as the original, which answers so.
-fn alike(why: Option<Why>, name: Option<Span>, said: impl Fn() -> Result<usize, Refusal>) -> bool {
+fn alike(why: Option<Why>, name: Option<Span>, said: Result<usize, Refusal>) -> bool {
     match why {
         None => true,
-        Some(Why::DottedName) => ends_before(&said(), name.unwrap()),
+        Some(Why::DottedName) => ends_before(said, name.unwrap()),
         Some(_) => false,
     }
 }
