@@ -5,7 +5,6 @@
 pub fn all(scale: u64, f: &mut impl FnMut(&[u8])) {
     let extra = (scale > 1) as usize;
     each(&TELLING_BYTES, 3 + extra, f);
-    each(&DOT_BYTES, 4 + extra, f);
     each(&TELLING_PIECES, 3 + extra, f);
     let mut text = Vec::new();
     for head in ["mov ", "mov ax,", "equ "] {
@@ -444,6 +443,7 @@ fn data_lines(f: &mut impl FnMut(&[u8])) {
 /// Every short row behind names and what is none: a dot directly behind a name, a number, `$`, a quote, a bracket or a blank, a name's last
 /// dot, two dots, and what may follow a name.
 fn dotted_rows(most: usize, f: &mut impl FnMut(&[u8])) {
+    each(&DOT_BYTES, most + 1, f);
     #[rustfmt::skip]
     let heads = [
         "", "a", "mov", "in ax", "in word", "in es", "in [bx", "in [si+di", "in [es", "equ a", "equ -", "k equ", "times", "times a", "times 2 a",

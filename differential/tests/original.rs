@@ -2,8 +2,10 @@
 #![cfg(original)]
 use differential::answer::shown;
 use differential::departures::{left_out, left_out_statement, left_out_tokens, underscored, Asked, Why};
+use differential::model::Rules;
 use differential::reads::on_a_large_stack;
 use differential::{original, recorded, sources, words};
+use laqhoncu::TokenKind;
 use mrc_compiler::ast::Operator;
 use mrc_compiler::parser::Parser;
 use std::hint::black_box;
@@ -239,17 +241,22 @@ fn differences_from_the_original() {
     ] {
         assert_eq!(shown(&original::read(source.as_bytes())).trim_end().replace('\n', ";"), expected);
     }
-    // A dot behind a name is a token of its own, and no statement takes it.
-    for (source, expected) in [
-        ("w12.a equ 5", "REF 20 3 4 255 255"),
-        ("in ax.b", "REF 11 5 6 255 255"),
-        ("in a.b", "REF 11 4 5 255 255"),
-        ("equ a.b", "REF 10 5 6 255 255"),
-        ("in [bx.a]", "REF 21 6 7 255 255"),
-        ("mov.x", "REF 21 3 4 255 255"),
-        ("times a.b", "REF 20 7 8 255 255"),
+    // A dot behind a name is a token of its own, which no statement takes; here it belongs to the name.
+    let kinds: Vec<TokenKind> = original::tokens("w12.a").0.iter().map(|placed| original::kind_of(&placed.token)).collect();
+    assert_eq!(kinds, [TokenKind::Identifier, TokenKind::Punctuation(b'.'), TokenKind::Identifier]);
+    for (source, there, here) in [
+        ("w12.a", "REF 20 3 4 255 255", "ST 0; LL 0 5; END 2"),
+        ("w12.a equ 5", "REF 20 3 4 255 255", "ST 0; LL 0 5; ST 6; VC 10 11 5; LC 6 11; END 5"),
+        ("in a.b", "REF 11 4 5 255 255", "ST 0; VL 3 6; OI 3 6; LI 0 6 4 1 3 6; END 4"),
+        ("in ax.b", "REF 11 5 6 255 255", "ST 0; VL 3 7; OI 3 7; LI 0 7 4 1 3 7; END 4"),
+        ("equ a.b", "REF 10 5 6 255 255", "ST 0; VL 4 7; LC 0 7; END 3"),
+        ("in [bx.a]", "REF 21 6 7 255 255", "ST 0; VL 4 8; OD 3 9 0 0; LI 0 9 4 1 3 9; END 4"),
+        ("mov.x", "REF 21 3 4 255 255", "ST 0; LL 0 5; END 2"),
+        ("times a.b", "REF 20 7 8 255 255", "REF 34 0 5 255 255"),
+        ("times 2 a.", "REF 20 9 10 255 255", "ST 0; VC 6 7 2; LL 8 10; LT 0 0; END 4"),
     ] {
-        assert_eq!(shown(&original::read(source.as_bytes())).trim_end(), expected, "{source:?}");
+        assert_eq!(recorded::read_of(&original::read(source.as_bytes())), there, "{source:?}");
+        assert_eq!(recorded::read_of(&Rules::NOW.full_read(source.as_bytes())), here, "{source:?}");
     }
     // 30 to 34 stand for its panics, and for nothing else.
     for (number, source) in [(30, "dw 0abh"), (31, "equ 0x80000000"), (32, "mov ax,[es:]"), (33, "mov ax,[si+di]"), (34, "times 2")] {
