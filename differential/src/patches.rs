@@ -263,6 +263,12 @@ fn line_starts(source: &[u8]) -> Vec<usize> {
     std::iter::once(0).chain((1..=source.len()).filter(|at| source[at - 1] == b'\n')).collect()
 }
 
+/// New lines beside the random ones: a `times` that is left open, whole lines, refused ones, dots in names.
+#[rustfmt::skip]
+const TEXTS: [&str; 11] = [
+    "times 2", "times 2 nop", "\t; bare", "k equ *5", "dw 0abh", "db 'open", "rep", "w dw 65536", "db 256,2b", "w12.a equ 5", "times a.b",
+];
+
 /// Demand 3, with no model between: on accepted sources, each of their lines and random texts, some with a byte above 127 or as long as a
 /// source may be, the patch answers as the full read of the edited source does, lent as many bytes for the listing; or it is refused with
 /// 40, and then a line of the proviso leaves a `times` open. Gives the calls, how many of them were accepted, refused as the full read, and
@@ -288,22 +294,7 @@ pub fn as_full_read(
             let text = match random.below(6) {
                 0 => Vec::new(),
                 1 => sources::changed(&mut random, &source),
-                2 => random
-                    .of(&[
-                        "times 2",
-                        "times 2 nop",
-                        "\t; bare",
-                        "k equ *5",
-                        "dw 0abh",
-                        "db 'open",
-                        "rep",
-                        "w dw 65536",
-                        "db 256,2b",
-                        "w12.a equ 5",
-                        "times a.b",
-                    ])
-                    .as_bytes()
-                    .to_vec(),
+                2 => random.of(&TEXTS).as_bytes().to_vec(),
                 _ => sources::grammar(&mut random),
             };
             let mut text = text.split(|b| *b == b'\n').next().unwrap().to_vec();

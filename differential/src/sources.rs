@@ -6,15 +6,7 @@ pub fn all(scale: u64, f: &mut impl FnMut(&[u8])) {
     let extra = (scale > 1) as usize;
     each(&TELLING_BYTES, 3 + extra, f);
     each(&TELLING_PIECES, 3 + extra, f);
-    let mut text = Vec::new();
-    for head in ["mov ", "mov ax,", "equ "] {
-        each(&OPERAND_PIECES, 4 + extra, &mut |rest| {
-            text.clear();
-            text.extend_from_slice(head.as_bytes());
-            text.extend_from_slice(rest);
-            f(&text)
-        });
-    }
+    each_behind(&["mov ", "mov ax,", "equ "], &OPERAND_PIECES, 4 + extra, f);
     behind_causes(f);
     data_rows(3 + extra, f);
     data_numbers(f);
@@ -77,6 +69,19 @@ pub fn each(pieces: &[&[u8]], most: usize, f: &mut impl FnMut(&[u8])) {
         }
     }
     go(pieces, most, &mut Vec::new(), f)
+}
+
+/// The same behind each of some beginnings.
+fn each_behind(heads: &[&str], pieces: &[&[u8]], most: usize, f: &mut impl FnMut(&[u8])) {
+    let mut text = Vec::new();
+    for head in heads {
+        each(pieces, most, &mut |rest| {
+            text.clear();
+            text.extend_from_slice(head.as_bytes());
+            text.extend_from_slice(rest);
+            f(&text)
+        });
+    }
 }
 
 /// Bytes at which the lexer decides: every class, every prefix and suffix, the digits at the edges of the bases.
@@ -390,15 +395,7 @@ fn data_rows(most: usize, f: &mut impl FnMut(&[u8])) {
         b" 255", b",256", b" 256", b",65535", b" 65536", b" 0x100", b",10000h", b" 12b", b",0x80000000", b" 2147483648", b",a", b" 'x'",
         b",''", b" 'x", b",", b"-", b"\n", b" ;256", b" db",
     ];
-    let mut text = Vec::new();
-    for head in heads {
-        each(&pieces, most, &mut |rest| {
-            text.clear();
-            text.extend_from_slice(head.as_bytes());
-            text.extend_from_slice(rest);
-            f(&text)
-        });
-    }
+    each_behind(&heads, &pieces, most, f);
 }
 
 /// Numbers at the edges of `db` and `dw`, in each way to write a number, with a refused number or nothing behind.
@@ -453,15 +450,7 @@ fn dotted_rows(most: usize, f: &mut impl FnMut(&[u8])) {
     let pieces: [&[u8]; 15] = [
         b".", b"a", b"1", b"0b", b"2b", b" ", b"\n", b":", b",", b"]", b"+1", b"$", b"'c'", b" equ 5", b" db 256",
     ];
-    let mut text = Vec::new();
-    for head in heads {
-        each(&pieces, most, &mut |rest| {
-            text.clear();
-            text.extend_from_slice(head.as_bytes());
-            text.extend_from_slice(rest);
-            f(&text)
-        });
-    }
+    each_behind(&heads, &pieces, most, f);
     // at the limits: a dot in the name at which depth 33 would begin, in the 17th `times`, and behind both
     for count in [30, 31, 32, 33] {
         for opener in ["(", "-", "1+-", "a.b*("] {
