@@ -115,13 +115,60 @@ fn known() -> Vec<Known> {
         Known::of("a\ntimes 2", "ST 0; LL 0 1", 2, "db 256", refused(40, 0, 0)),
         Known::of("times 2\nb", "", 8, "db 256", refused(40, 0, 0)),
         Known::of("times 2 db 256\nb", "", 15, "c", written("times 2 db 256\nc", "ST 15; LL 15 16")),
+        // A dot that starts a token is punctuation; and a line beside the new one is not read, with or without a dot.
+        Known::of("a\n", "ST 0; LL 0 1", 2, ".a", refused(20, 2, 3)),
+        Known::of("a\n", "ST 0; LL 0 1", 2, "a .b", refused(20, 4, 5)),
+        Known::of("a\n", "ST 0; LL 0 1", 2, "db 1.a", refused(15, 6, 7)),
+        Known::of("times 2\n.a", "", 8, "a", refused(40, 0, 0)),
+        Known::of("a.b\nc\n.d", "ST 4; LL 4 5", 4, "in", written("a.b\nin\n.d", "ST 4; LI 4 6 4 0 6 6")),
+    ]
+}
+
+/// Document 02, Ask 2: a line with a dot in a name leaves a `times` open, or is read, where document 01 refuses it at the dot.
+fn dotted() -> Vec<Known> {
+    let labels = "ST 0; LL 0 1; ST 2; LL 2 3";
+    vec![
+        Known::of("times a.b\nb", "", 10, "c", refused(40, 0, 0)),
+        Known::of("times a.b", "", 0, "c", refused(40, 0, 0)),
+        Known::of("c", "", 0, "times a.b ; open", refused(40, 0, 0)),
+        Known::of("times 2 a.b\nb", "", 12, "c", written("times 2 a.b\nc", "ST 12; LL 12 13")),
+        Known::of(
+            "a\nb\n",
+            labels,
+            0,
+            "w12.a equ 5",
+            written("w12.a equ 5\nb\n", "ST 0; LL 0 5; ST 6; VC 10 11 5; LC 6 11; ST 12; LL 12 13"),
+        ),
+        Known::of(
+            "w12.a equ 5\nb",
+            "ST 0; LL 0 5; ST 6; VC 10 11 5; LC 6 11; ST 12; LL 12 13",
+            12,
+            "in ax.b",
+            written("w12.a equ 5\nin ax.b", "ST 0; LL 0 5; ST 6; VC 10 11 5; LC 6 11; ST 12; VL 15 19; OI 15 19; LI 12 19 4 1 15 19"),
+        ),
+        Known::of("a\nw12.a", "ST 0; LL 0 1; ST 2; LL 2 7", 0, "a..", written("a..\nw12.a", "ST 0; LL 0 3; ST 4; LL 4 9")),
+        // `times.x` is no directive: it leaves nothing open, above the new line or in it.
+        Known::of("times.x\nb", "ST 0; LL 0 7; ST 8; LL 8 9", 8, "c", written("times.x\nc", "ST 0; LL 0 7; ST 8; LL 8 9")),
+        Known::of("a\nb", labels, 2, "times.x 2", refused(20, 10, 11)),
+        Known::of("a\nb", labels, 2, "times 2 times.x:", written("a\ntimes 2 times.x:", "ST 0; LL 0 1; ST 2; VC 8 9 2; LL 10 17; LT 0 0")),
+        // the refusals behind such a name
+        Known::of("a\nb", labels, 2, "w.1: db 256", refused(60, 10, 13)),
+        Known::of("a\nb", labels, 2, "w.1 equ *5", refused(22, 0, 0)),
+        Known::of(
+            "a\nb",
+            labels,
+            2,
+            "in [si+di.x]",
+            written("a\nin [si+di.x]", "ST 0; LL 0 1; ST 2; VL 9 13; PF 8 13 0; OX 5 14 4 1 0 0; LI 2 14 4 1 5 14"),
+        ),
     ]
 }
 
 /// Those that hold under some rules.
 pub fn under(rules: Rules) -> Vec<Known> {
     let wide = |known: &Known| matches!(&known.answer, Err(refusal) if refusal.number == 60);
-    known().into_iter().filter(|known| rules.counts_fit || !wide(known)).collect()
+    let dotted = if rules.dots_in_names { dotted() } else { Vec::new() };
+    known().into_iter().chain(dotted).filter(|known| rules.counts_fit || !wide(known)).collect()
 }
 
 /// Panics where the patch says something else. Gives how many were asked.

@@ -370,18 +370,20 @@ pub fn read_statement(source: &[u8], place: usize) -> Answer {
     read_part(lent(source)?, place, Part::OneStatement)
 }
 
-/// Whether the original, having read the statement at a place, holds the token that begins at `ahead`. It doesn't say so itself; but a
-/// refused number makes it panic just when it is read: put in that token's stead it does, put behind that token it does not.
+/// Whether the original, reading the first statement of a text, reads its token `n`. It doesn't say so itself; but a refused number makes it
+/// panic just when it is read, and put in that token's stead it does.
+pub fn reaches(text: &str, seen: &[Placed], n: usize) -> bool {
+    let kept = if n == 0 { "" } else { &text[..seen[n - 1].to] };
+    run(&format!("{kept} 2b"), Part::OneStatement).is_err_and(|message| number_of_panic(&message) == 30)
+}
+
+/// Whether the original, having read the statement at a place, holds the token that begins at `ahead`: it reads that token, and none behind.
 pub fn holds(source: &str, place: usize, ahead: usize) -> bool {
     let rest = &source[place..];
     let (seen, _) = tokens(rest);
     let held = seen.partition_point(|placed| place + placed.from < ahead);
-    let panics = |before: usize| {
-        let kept = if before == 0 { "" } else { &rest[..seen[before - 1].to] };
-        run(&format!("{kept} 2b"), Part::OneStatement).is_err_and(|message| number_of_panic(&message) == 30)
-    };
     let begins = seen.get(held).map_or(rest.len(), |placed| placed.from);
-    place + begins == ahead && panics(held) && (held == seen.len() || !panics(held + 1))
+    place + begins == ahead && reaches(rest, &seen, held) && (held == seen.len() || !reaches(rest, &seen, held + 1))
 }
 
 /// The original's token at a place.

@@ -8,18 +8,19 @@ use crate::patched::{called, shown, Call, Patch};
 use crate::sources::{self, Random};
 use laqhoncu::Refusal;
 
-/// Calls of the patch: bytes above 127, wide numbers, each cause of a refusal and long lines, then random ones. Their listings are document
-/// 01's, so some are of sources that are no longer accepted.
+/// Calls of the patch: bytes above 127, wide numbers, dots in names, each cause of a refusal and long lines, then random ones. Where a source
+/// is no longer accepted, its listing is document 01's.
 pub fn calls(count: u64, f: &mut impl FnMut(&Call)) {
     foreign(f);
     wide(f);
+    dotted(f);
     causes(f);
     longest(f);
     at_random(count, f);
 }
 
 fn read(source: &[u8]) -> Result<Vec<u8>, Refusal> {
-    Rules::BASE.full_read(source)
+    Rules::NOW.full_read(source).or_else(|_| Rules::BASE.full_read(source))
 }
 
 /// Accepted sources with their own listing, others, listings that were changed, places that are none, bytes above 127.
@@ -116,8 +117,7 @@ fn foreign(f: &mut impl FnMut(&Call)) {
     }
 }
 
-/// A line above, the replaced one, the new one and one below, with and without numbers too wide for their data word, beside a `times` that
-/// is left open and in one that is not; with the source's own listing, with one that is another's, and with none.
+/// Numbers too wide for their data word, and ones that fit, beside a `times` that is left open and in one that is not.
 fn wide(f: &mut impl FnMut(&Call)) {
     #[rustfmt::skip]
     let lines = [
@@ -125,10 +125,26 @@ fn wide(f: &mut impl FnMut(&Call)) {
         "times 256 db 1", "times 2 times 3 dw 65536", "db 256,12b", "db 12b,256", "db a,256", "; db 256", "times 2 ; db 256", "in 256",
         "db ,,256",
     ];
+    beside(&lines, &["\ndb 256", "", "\nb"], f);
+}
+
+/// Dots in names and at the start of a token, beside and in a `times` that is left open, in its count and in what looks like its word.
+fn dotted(f: &mut impl FnMut(&Call)) {
+    #[rustfmt::skip]
+    let lines = [
+        "", "nop", "times 2", "w12.a equ 5", "a..b: db 256", "times a.b", "times 2 a.", "times.x 2", "in ax.b,[es:bx+c.d]", "times .b",
+        "; times a.b", "times 2 ; a.b", "db 1.a",
+    ];
+    beside(&lines, &["\na.b", "", "\ntimes a. b"], f);
+}
+
+/// Each of some lines above, as the replaced one and as the new one, and one below; with the source's own listing, with one that is
+/// another's, and with none.
+fn beside(lines: &[&str], belows: &[&str], f: &mut impl FnMut(&Call)) {
     for above in lines {
         for replaced in lines {
             for text in lines {
-                for below in ["\ndb 256", "", "\nb"] {
+                for below in belows {
                     let source = format!("{above}\n{replaced}{below}").into_bytes();
                     let (place, text) = (above.len() + 1, text.as_bytes());
                     let listing = read(&source).unwrap_or_default();
@@ -247,6 +263,12 @@ fn line_starts(source: &[u8]) -> Vec<usize> {
     std::iter::once(0).chain((1..=source.len()).filter(|at| source[at - 1] == b'\n')).collect()
 }
 
+/// New lines beside the random ones: a `times` that is left open, whole lines, refused ones, dots in names.
+#[rustfmt::skip]
+const TEXTS: [&str; 11] = [
+    "times 2", "times 2 nop", "\t; bare", "k equ *5", "dw 0abh", "db 'open", "rep", "w dw 65536", "db 256,2b", "w12.a equ 5", "times a.b",
+];
+
 /// Demand 3, with no model between: on accepted sources, each of their lines and random texts, some with a byte above 127 or as long as a
 /// source may be, the patch answers as the full read of the edited source does, lent as many bytes for the listing; or it is refused with
 /// 40, and then a line of the proviso leaves a `times` open. Gives the calls, how many of them were accepted, refused as the full read, and
@@ -272,10 +294,7 @@ pub fn as_full_read(
             let text = match random.below(6) {
                 0 => Vec::new(),
                 1 => sources::changed(&mut random, &source),
-                2 => random
-                    .of(&["times 2", "times 2 nop", "\t; bare", "k equ *5", "dw 0abh", "db 'open", "rep", "w dw 65536", "db 256,2b"])
-                    .as_bytes()
-                    .to_vec(),
+                2 => random.of(&TEXTS).as_bytes().to_vec(),
                 _ => sources::grammar(&mut random),
             };
             let mut text = text.split(|b| *b == b'\n').next().unwrap().to_vec();

@@ -122,10 +122,11 @@ pub fn names_of(word: &[u8], look: &mut impl FnMut(&[u8]) -> Named) -> String {
     format!("{operation} {name} {directive}")
 }
 
-/// What is recorded of tokens: telling pairs, numbers at their edges, lines.
+/// What is recorded of tokens: telling pairs, dots that belong to no name, numbers at their edges, lines.
 pub fn token_sources() -> Vec<Vec<u8>> {
     let mut list = Vec::new();
     sources::each(&sources::TELLING_BYTES, 2, &mut |source| list.push(source.to_vec()));
+    sources::each(&sources::DOT_BYTES, 2, &mut |source| list.extend(source.contains(&b'.').then(|| source.to_vec())));
     for digits in ["", "0", "1", "7", "8", "9", "af", "2147483647", "2147483648", "7fffffff", "80000000", "17777777777", "20000000000"] {
         for prefix in ["0", "0b", "0o", "0d", "0x", "1", "9"] {
             for suffix in ["", "b", "d", "o", "h", "bh", "D", "H", "g"] {
@@ -134,7 +135,7 @@ pub fn token_sources() -> Vec<Vec<u8>> {
         }
     }
     let mut random = Random::new(3);
-    for _ in 0..300 {
+    for _ in 0..400 {
         let source = sources::grammar(&mut random);
         list.push(sources::changed(&mut random, &source));
         list.push(source);
@@ -155,7 +156,7 @@ pub fn read_sources() -> Vec<Vec<u8>> {
         }
     }
     let mut random = Random::new(5);
-    for _ in 0..300 {
+    for _ in 0..400 {
         list.push(sources::grammar(&mut random));
     }
     list

@@ -26,7 +26,8 @@ pub fn samples() -> Vec<(Vec<u8>, String)> {
     ]
     .map(|(source, answer)| (source.as_bytes().to_vec(), answer.to_string()))
     .to_vec();
-    list.extend(wide().map(|(source, answer)| (source.as_bytes().to_vec(), answer.to_string())));
+    let requested = wide().into_iter().chain(dotted());
+    list.extend(requested.map(|(source, answer)| (source.as_bytes().to_vec(), answer.to_string())));
     let nested = |depth| format!("equ {}1{}", "(".repeat(depth), ")".repeat(depth)).into_bytes();
     list.extend([
         (nested(31), "ST 0; VC 35 36 1; LC 0 67; END 3".to_string()),
@@ -79,5 +80,66 @@ fn wide() -> [(&'static str, &'static str); 31] {
         ("times 70000 a", "ST 0; VC 6 11 70000; LL 12 13; LT 0 0; END 4"),
         ("in db,256", "ST 0; VL 3 5; OI 3 5; VC 6 9 256; OI 6 9; LI 0 9 4 2 3 9; END 6"),
         ("dw 'ab'", "ST 0; LD 0 7 2 97 98; END 2"),
+    ]
+}
+
+/// Document 02, Ask 2: dots in names, and dots that start a token.
+fn dotted() -> [(&'static str, &'static str); 49] {
+    [
+        ("w12.a equ 5", "ST 0; LL 0 5; ST 6; VC 10 11 5; LC 6 11; END 5"),
+        // as many as stand there: a last dot and two dots belong to the name, and digits behind a dot
+        ("a.", "ST 0; LL 0 2; END 2"),
+        ("a..b", "ST 0; LL 0 4; END 2"),
+        ("a.b:", "ST 0; LL 0 3; END 2"),
+        ("a.:", "ST 0; LL 0 2; END 2"),
+        ("a.5h", "ST 0; LL 0 4; END 2"),
+        ("_.2b", "ST 0; LL 0 4; END 2"),
+        ("a. b", "ST 0; LL 0 2; ST 3; LL 3 4; END 4"),
+        ("A.B\nc.", "ST 0; LL 0 3; ST 4; LL 4 6; END 4"),
+        // behind anything else a dot is punctuation
+        (".a", "REF 20 0 1 255 255"),
+        (".", "REF 20 0 1 255 255"),
+        ("a .b", "REF 20 2 3 255 255"),
+        ("a\n.b", "REF 20 2 3 255 255"),
+        ("a:.b", "REF 20 2 3 255 255"),
+        ("1.a", "REF 20 0 1 255 255"),
+        ("db 1.a", "REF 15 4 5 255 255"),
+        ("db 'a'.b", "REF 15 6 7 255 255"),
+        ("equ $.a", "REF 10 5 6 255 255"),
+        ("equ (a).b", "REF 10 7 8 255 255"),
+        ("in [1].a", "REF 11 6 7 255 255"),
+        ("in .a", "REF 21 3 4 255 255"),
+        ("in [.a]", "REF 24 4 5 255 255"),
+        ("; a.b", "END 0"),
+        ("db 'a.b'", "ST 0; LD 0 8 3 97 46 98; END 2"),
+        // operands and expressions: the whole name is looked up
+        ("in ax.b", "ST 0; VL 3 7; OI 3 7; LI 0 7 4 1 3 7; END 4"),
+        ("in byte.", "ST 0; VL 3 8; OI 3 8; LI 0 8 4 1 3 8; END 4"),
+        ("in es.:1", "ST 0; VL 3 6; VC 7 8 1; OF 3 8; LI 0 8 4 1 3 8; END 5"),
+        ("in [bx.a]", "ST 0; VL 4 8; OD 3 9 0 0; LI 0 9 4 1 3 9; END 4"),
+        ("in [ax.b]", "ST 0; VL 4 8; OD 3 9 0 0; LI 0 9 4 1 3 9; END 4"),
+        ("in [si+di.x]", "ST 0; VL 7 11; PF 6 11 0; OX 3 12 4 1 0 0; LI 0 12 4 1 3 12; END 5"),
+        ("in [es.x:1]", "REF 13 8 9 255 255"),
+        ("equ a.b+c.", "ST 0; VL 4 7; VL 8 10; IN 4 10 0; LC 0 10; END 5"),
+        // statements
+        ("mov.x ax", "ST 0; LL 0 5; ST 6; LL 6 8; END 4"),
+        ("rep.", "ST 0; LL 0 4; END 2"),
+        ("k equ.5", "ST 0; LL 0 1; ST 2; LL 2 7; END 4"),
+        ("db.1", "ST 0; LL 0 4; END 2"),
+        ("times.x", "ST 0; LL 0 7; END 2"),
+        ("times a.b", "REF 34 0 5 255 255"),
+        ("times a.b c.d:", "ST 0; VL 6 9; LL 10 13; LT 0 0; END 4"),
+        // names and numbers: `0b` has no digit there
+        ("times 0b.1", "ST 0; VC 6 7 0; LL 7 10; LT 0 0; END 4"),
+        ("times 10b.x", "REF 20 9 10 255 255"),
+        ("times 1bh.x", "ST 0; VC 6 8 1; LL 8 11; LT 0 0; END 4"),
+        // the other refusals before and behind such a name
+        ("equ *5\na.b", "REF 22 0 0 255 255"),
+        ("equ *a.b", "REF 22 0 0 255 255"),
+        ("a.b db 256", "REF 60 7 10 255 255"),
+        ("db 256 a.b", "REF 60 3 6 255 255"),
+        ("db a.b", "REF 15 3 6 255 255"),
+        ("a.b 12b", "REF 30 4 7 255 255"),
+        ("in [es:]a.b", "REF 32 3 8 255 255"),
     ]
 }

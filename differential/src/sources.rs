@@ -6,19 +6,13 @@ pub fn all(scale: u64, f: &mut impl FnMut(&[u8])) {
     let extra = (scale > 1) as usize;
     each(&TELLING_BYTES, 3 + extra, f);
     each(&TELLING_PIECES, 3 + extra, f);
-    let mut text = Vec::new();
-    for head in ["mov ", "mov ax,", "equ "] {
-        each(&OPERAND_PIECES, 4 + extra, &mut |rest| {
-            text.clear();
-            text.extend_from_slice(head.as_bytes());
-            text.extend_from_slice(rest);
-            f(&text)
-        });
-    }
+    each_behind(&["mov ", "mov ax,", "equ "], &OPERAND_PIECES, 4 + extra, f);
     behind_causes(f);
     data_rows(3 + extra, f);
     data_numbers(f);
     data_lines(f);
+    dotted_rows(3 + extra, f);
+    dotted_lines(f);
     long(f);
     let mut random = Random::new(1);
     for _ in 0..200_000 * scale {
@@ -77,9 +71,25 @@ pub fn each(pieces: &[&[u8]], most: usize, f: &mut impl FnMut(&[u8])) {
     go(pieces, most, &mut Vec::new(), f)
 }
 
+/// The same behind each of some beginnings.
+fn each_behind(heads: &[&str], pieces: &[&[u8]], most: usize, f: &mut impl FnMut(&[u8])) {
+    let mut text = Vec::new();
+    for head in heads {
+        each(pieces, most, &mut |rest| {
+            text.clear();
+            text.extend_from_slice(head.as_bytes());
+            text.extend_from_slice(rest);
+            f(&text)
+        });
+    }
+}
+
 /// Bytes at which the lexer decides: every class, every prefix and suffix, the digits at the edges of the bases.
 pub const TELLING_BYTES: [&[u8]; 20] =
     [b"0", b"1", b"7", b"8", b"b", b"B", b"d", b"o", b"O", b"x", b"h", b"f", b"g", b"_", b" ", b"\n", b"'", b";", b"$", b"\0"];
+
+/// Bytes that a dot can stand behind: of names, of numbers, of every other class.
+pub const DOT_BYTES: [&[u8]; 12] = [b".", b"a", b"_", b"b", b"0", b"1", b"x", b" ", b"\n", b"'", b";", b"$"];
 
 /// Pieces at which the parser decides.
 #[rustfmt::skip]
@@ -96,7 +106,10 @@ const OPERATIONS: [&str; 16] =
     ["mov", "add", "jmp", "Call", "in", "NOP", "rep", "repne", "repnz", "ssb", "int3", "lea", "loopne", "test", "xlatb", "SALC"];
 const REGISTERS: [&str; 16] = ["al", "CL", "dl", "bl", "ah", "ch", "dh", "bh", "ax", "cx", "Dx", "bx", "sp", "bp", "si", "di"];
 const SEGMENTS: [&str; 4] = ["es", "CS", "ss", "ds"];
-const NAMES: [&str; 14] = ["a", "w12", "_x", "start", "sal", "xlat", "repe", "movs", "times1", "bytes", "equ", "byte", "h", "times"];
+#[rustfmt::skip]
+const NAMES: [&str; 18] = [
+    "a", "w12", "_x", "start", "sal", "xlat", "repe", "movs", "times1", "bytes", "equ", "byte", "h", "times", "w12.a", "ax.b", "a..", "db.",
+];
 #[rustfmt::skip]
 const NUMBERS: [&str; 26] = [
     "0", "1", "10", "255", "256", "65535", "65536", "70000", "2147483647", "2147483648", "0x1F", "0x7fffffff", "0x80000000",
@@ -317,6 +330,9 @@ pub fn causes() -> Vec<String> {
         // 60, and numbers that just fit
         "db 256", "dw 65536", "db 1,256", "db 'a' 0x100", "DW ,70000", "times 2 db 256", "a: dw 2147483647", "db 255", "dw 65535",
         "in db,256",
+        // dots: in names, and where a token starts
+        "a.", "a.b", "a..b:", "in ax.b", "in es.", "in [bx.a]", "in [es.x:1", "in [bx+si.a", "in [si+di.]", "mov.x", "rep.", "times.x 2",
+        "times a.b", "times 2 a.b", "equ -a.", "equ $.", "equ 1.", "a .b", "in [.", "db 'a'.", "db a.b",
         // 32 to 34
         "mov [es:]", "mov ax,[ ds : ]", "mov [es:],ax", "mov [es:", "mov [si+si", "mov [si+di", "mov [di + si]", "mov [es:di+di",
         "times 1", "times 1 times 2", "times times", "times 1\ntimes 2\n", "times 1 ;c",
@@ -339,7 +355,7 @@ pub fn causes() -> Vec<String> {
     }
     for count in [15, 16, 17] {
         for unit in ["times 1 ", "times 1\n", "times 1 ;\n\n", "TIMES times\n"] {
-            for tail in ["", "a", "times", "times ", "times *", "a\ntimes 1 b", "5", "db 256", "db 256,2b"] {
+            for tail in ["", "a", "times", "times ", "times *", "a\ntimes 1 b", "5", "db 256", "db 256,2b", "times.x", "a.b"] {
                 list.push(unit.repeat(count) + tail);
             }
         }
@@ -379,15 +395,7 @@ fn data_rows(most: usize, f: &mut impl FnMut(&[u8])) {
         b" 255", b",256", b" 256", b",65535", b" 65536", b" 0x100", b",10000h", b" 12b", b",0x80000000", b" 2147483648", b",a", b" 'x'",
         b",''", b" 'x", b",", b"-", b"\n", b" ;256", b" db",
     ];
-    let mut text = Vec::new();
-    for head in heads {
-        each(&pieces, most, &mut |rest| {
-            text.clear();
-            text.extend_from_slice(head.as_bytes());
-            text.extend_from_slice(rest);
-            f(&text)
-        });
-    }
+    each_behind(&heads, &pieces, most, f);
 }
 
 /// Numbers at the edges of `db` and `dw`, in each way to write a number, with a refused number or nothing behind.
@@ -429,10 +437,58 @@ fn data_lines(f: &mut impl FnMut(&[u8])) {
     each(&lines, 3, f);
 }
 
+/// Every short row behind names and what is none: a dot directly behind a name, a number, `$`, a quote, a bracket or a blank, a name's last
+/// dot, two dots, and what may follow a name.
+fn dotted_rows(most: usize, f: &mut impl FnMut(&[u8])) {
+    each(&DOT_BYTES, most + 1, f);
+    #[rustfmt::skip]
+    let heads = [
+        "", "a", "mov", "in ax", "in word", "in es", "in [bx", "in [si+di", "in [es", "equ a", "equ -", "k equ", "times", "times a", "times 2 a",
+        "times 0b", "times 1bh", "db 1", "jmp a:b",
+    ];
+    #[rustfmt::skip]
+    let pieces: [&[u8]; 15] = [
+        b".", b"a", b"1", b"0b", b"2b", b" ", b"\n", b":", b",", b"]", b"+1", b"$", b"'c'", b" equ 5", b" db 256",
+    ];
+    each_behind(&heads, &pieces, most, f);
+    // at the limits: a dot in the name at which depth 33 would begin, in the 17th `times`, and behind both
+    for count in [30, 31, 32, 33] {
+        for opener in ["(", "-", "1+-", "a.b*("] {
+            for head in ["equ ", "in [1+", "times ", "a.b equ "] {
+                for name in ["a.b", "a.", "a .b", "1.a"] {
+                    let row = opener.repeat(count / levels(opener)) + &"(".repeat(count % levels(opener));
+                    f(format!("{head}{row}{name}").as_bytes());
+                    f(format!("{head}{row}{name}{}\nc.d", ")".repeat(row.matches('(').count())).as_bytes());
+                }
+            }
+        }
+    }
+    for count in [15, 16, 17] {
+        for unit in ["times 1 ", "times a.b\n", "times a. "] {
+            for tail in ["times.x", "times.x 1", "times 1 times.x", "times. 1 a", "times a.b", "times 1.a", "times 1 .a", "times 1 a\nc.d"]
+            {
+                f((unit.repeat(count) + tail).as_bytes());
+            }
+        }
+    }
+}
+
+/// Every row of up to three lines, some with a dot in a name, some with another refusal, before and behind it.
+fn dotted_lines(f: &mut impl FnMut(&[u8])) {
+    let deep = format!("equ {}a.b\n", "-".repeat(32));
+    #[rustfmt::skip]
+    let lines: [&[u8]; 20] = [
+        b"a.b equ 5\n", b"w12.a:\n", b"times a.b\n", b"times 2 a.\n", b"times 2\n", b"in ax.b,[a..b]\n", b"mov.x\n", b"; a.b\n", b"db 'a.b'\n",
+        b".a\n", b"db 1.a\n", b"db 256\n", b"equ *5\n", b"equ /a.b\n", b"in [es:]a.b\n", b"in [si+di]\n", b"in [ax.b\n", b"12b\n", b"a\n",
+        deep.as_bytes(),
+    ];
+    each(&lines, 3, f);
+}
+
 /// Long sources: at and around 65,536 bytes, deep beyond every limit, long rows of one thing.
 pub fn long(f: &mut impl FnMut(&[u8])) {
     for length in [65535, 65536, 65537, 70000] {
-        for unit in ["a", "\n", " ", ";", "a\n", "in-1\n", "nop\n", "db 1\n", "dw 65535\n", "times 1 a\n", "equ 1+2*3\n"] {
+        for unit in ["a", "\n", " ", ";", "a\n", "in-1\n", "nop\n", "db 1\n", "dw 65535\n", "times 1 a\n", "equ 1+2*3\n", "a.", "a.b c. "] {
             let mut text = unit.repeat(length / unit.len() + 1);
             text.truncate(length);
             f(text.as_bytes());
@@ -452,6 +508,8 @@ pub fn long(f: &mut impl FnMut(&[u8])) {
         f("'".repeat(count / 4).as_bytes());
         f(format!("{}a", "\n".repeat(count)).as_bytes());
         f("\u{e9}".repeat(count).as_bytes());
+        f(format!("a{} equ 1", ".".repeat(count)).as_bytes());
+        f(format!("{}db 256", "a.b: in c.,d.e\n".repeat(count / 4)).as_bytes());
     }
 }
 

@@ -73,15 +73,18 @@ impl<F: TokenRead> Compare<F> {
     /// Every source of the usual run: over four million. `scale` 1 takes some seconds.
     pub fn all(&mut self, scale: u64) {
         sources::each(&sources::TELLING_BYTES, 5, &mut |source| self.source(source));
+        sources::each(&sources::DOT_BYTES, 5, &mut |source| self.source(source));
         let bytes: Vec<[u8; 1]> = (0..128).map(|b| [b]).collect();
         let bytes: Vec<&[u8]> = bytes.iter().map(|b| b.as_slice()).collect();
         sources::each(&bytes, 2, &mut |source| self.every_place(source));
         numbers(&mut |source| if source.len() < 20 { self.every_place(source.as_bytes()) } else { self.source(source.as_bytes()) });
         for length in [65535, 65536] {
-            for unit in ["a", "0", "f", " ", "\t\r", "\n", ";", "$", "\u{7f}", "a1_ ", "0x1 ", "'\n", "1b"] {
+            for unit in
+                ["a", "0", "f", " ", "\t\r", "\n", ";", "$", "\u{7f}", "a1_ ", "0x1 ", "'\n", "1b", ".", "a.", "a. ", "_..", "1.", "0b.1 "]
+            {
                 self.source(&repeated(unit, length));
             }
-            for (open, close) in [("'", "'"), ("'", ""), ("'", "\n"), (";", "\n"), ("0x", "")] {
+            for (open, close) in [("'", "'"), ("'", ""), ("'", "\n"), (";", "\n"), ("0x", ""), ("a.", "."), ("1.", "")] {
                 let middle = repeated("0", length - open.len() - close.len());
                 self.source(&[open.as_bytes(), &middle, close.as_bytes()].concat());
             }
@@ -161,7 +164,7 @@ fn number_like(random: &mut Random) -> Vec<u8> {
         text.push(digits[random.below(digits.len())]);
     }
     for _ in 0..random.below(3) {
-        text.push(b"bBoOdDhHxX 9fg_:"[random.below(16)]);
+        text.push(b"bBoOdDhHxX 9fg_:."[random.below(17)]);
     }
     text
 }
@@ -175,7 +178,7 @@ pub fn numbers(f: &mut impl FnMut(&str)) {
             for zeros in ["", "0", "000", &"0".repeat(40)] {
                 for prefix in ["", "0b", "0o", "0d", "0x", "0B", "0O", "0D", "0X"] {
                     for suffix in ["", "b", "B", "o", "O", "d", "D", "h", "H"] {
-                        for behind in ["", " ", "h", "o", "b", "9", "g", ",", "x"] {
+                        for behind in ["", " ", "h", "o", "b", "9", "g", ",", "x", ".", "g."] {
                             f(&format!("{prefix}{zeros}{digits}{suffix}{behind}"));
                         }
                     }

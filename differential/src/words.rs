@@ -86,9 +86,10 @@ impl<F: Lookup> Compare<F> {
         self.named += (expected != Named::default()) as u64;
     }
 
-    /// Every word up to `most` letters and digits; every spelling in every mixture of case; every one-letter change of each.
+    /// Every word up to `most` letters, digits, `_` and dots; every spelling in every mixture of case; every one-letter change of each; each
+    /// as a part of a longer name.
     pub fn all(&mut self, most: usize) {
-        let letters: Vec<[u8; 1]> = b"abcdefghijklmnopqrstuvwxyzABCDEFGHIJKLMNOPQRSTUVWXYZ0123456789_".iter().map(|b| [*b]).collect();
+        let letters: Vec<[u8; 1]> = b"abcdefghijklmnopqrstuvwxyzABCDEFGHIJKLMNOPQRSTUVWXYZ0123456789_.".iter().map(|b| [*b]).collect();
         let letters: Vec<&[u8]> = letters.iter().map(|b| b.as_slice()).collect();
         crate::sources::each(&letters, most, &mut |word| self.word(word));
         for spelling in spellings().into_iter().chain(OTHERS) {
@@ -115,8 +116,11 @@ impl<F: Lookup> Compare<F> {
                     word.insert(at, old);
                 }
             }
-            for behind in ["\0", "\0\0\0", "xxxxxxxx", &"z".repeat(65536)] {
+            for behind in ["\0", "\0\0\0", "xxxxxxxx", &"z".repeat(65536), ".x", "..", ".12", ".a.b", ".ax", ".mov", &".".repeat(65536)] {
                 self.word(format!("{spelling}{behind}").as_bytes());
+            }
+            for before in ["a.", "_.", "ax.", "times.", "a.."] {
+                self.word(format!("{before}{spelling}").as_bytes());
             }
         }
     }

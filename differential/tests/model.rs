@@ -1,5 +1,5 @@
 //! The model: what the rules say of their samples, and what must hold of their answers among themselves. Nothing here asks the original.
-use differential::answer::Met;
+use differential::answer::{Met, Named};
 use differential::model::{self, Rules};
 use differential::patched::{shown, Call};
 use differential::reads::on_a_large_stack;
@@ -8,6 +8,9 @@ use differential::sources::Random;
 use differential::{known, patches, recorded, samples, sources, words};
 use laqhoncu::{Operator, TokenKind};
 use std::collections::HashMap;
+
+/// The rules without 60.
+const ALL_COUNTS: Rules = Rules { counts_fit: false, ..Rules::NOW };
 
 /// The number that a source is refused with, if it is.
 fn refused(rules: Rules, source: &[u8]) -> Option<u8> {
@@ -34,22 +37,147 @@ fn samples_of_the_rules() {
     }
 }
 
-/// Document 01 alone answers the samples as document 02 does, but for those that it accepts with the low bytes.
+/// Document 01 alone answers the samples as document 02 does, but for those that it accepts with the low bytes, and for some with a dot,
+/// each of which it refuses.
 #[test]
 fn samples_of_the_base() {
-    let mut parted = 0;
+    let mut parted = [0, 0];
     for (source, expected) in samples::samples() {
         let said = read_of(&in_room(Rules::BASE.full_read(&source)));
         if expected.starts_with("REF 60 ") {
-            parted += 1;
+            parted[0] += 1;
             assert_ne!(said, expected, "{}", escaped(&source));
-        } else {
-            assert_eq!(said, expected, "{}", escaped(&source));
+        } else if said != expected {
+            parted[1] += 1;
+            assert!(source.contains(&b'.') && said.starts_with("REF "), "{}\n{expected}\n{said}", escaped(&source));
         }
     }
-    assert!(parted > 15, "{parted}");
+    assert_eq!(parted, [20, 28]);
     assert_eq!(read_of(&Rules::BASE.full_read(b"dw 70000")), "ST 0; LD 0 8 2 112 17; END 2");
     assert_eq!(read_of(&Rules::BASE.full_read(b"db 256,12b")), "REF 30 7 10 255 255");
+    assert_eq!(read_of(&Rules::BASE.full_read(b"w12.a equ 5")), "REF 20 3 4 255 255");
+    assert_eq!(read_of(&Rules::BASE.full_read(b"times a.b")), "REF 20 7 8 255 255");
+}
+
+/// The tokens of a text, each as that part of it.
+fn parts(rules: Rules, text: &str) -> Vec<(TokenKind, &str)> {
+    let (mut list, mut place) = (Vec::new(), 0);
+    while let Ok(token) = rules.token(text.as_bytes(), place) {
+        if token.kind == TokenKind::EndOfFile {
+            break;
+        }
+        list.push((token.kind, &text[token.span.range()]));
+        place = token.span.to;
+    }
+    list
+}
+
+/// "After its first character a name may hold a dot. A dot that starts a token stays punctuation."
+#[test]
+fn dots_in_tokens() {
+    for (text, expected) in [
+        ("w12.a", "w12.a"),
+        ("a.", "a."),
+        ("a..b", "a..b"),
+        ("_._", "_._"),
+        ("a.5h.", "a.5h."),
+        ("a.2b 2", "a.2b| |2"),
+        (".a", ".|a"),
+        ("..a.", ".|.|a."),
+        ("a .b", "a| |.|b"),
+        ("a\n.b", "a|\n|.|b"),
+        ("1.a", "1|.|a"),
+        ("1.a.b", "1|.|a.b"),
+        ("0b.1", "0|b.1"),
+        ("0b1.a", "0b1|.|a"),
+        ("0x.a", "0|x.a"),
+        ("0x1f.a", "0x1f|.|a"),
+        ("10b.x", "10b|.|x"),
+        ("1bh.x", "1b|h.x"),
+        ("12h.x", "12h|.|x"),
+        ("12x.h", "12|x.h"),
+        ("12a.h", "1|2|a.h"),
+        ("9.9.", "9|.|9|."),
+        ("$.a", "$|.|a"),
+        ("'a.b'.c.d", "'a.b'|.|c.d"),
+        ("[a.b].c", "[|a.b|]|.|c"),
+        ("a.b:c.d", "a.b|:|c.d"),
+        ("a.,.b", "a.|,|.|b"),
+        ("a.'b.", "a.|'b."),
+        ("a.;b.c", "a.|;b.c"),
+        ("!.a", "!|.|a"),
+    ] {
+        let parts = parts(Rules::NOW, text);
+        let said: Vec<&str> = parts.iter().map(|(_, text)| *text).collect();
+        assert_eq!(said.join("|"), expected, "{text:?}");
+        for (kind, text) in parts {
+            assert_eq!(kind == TokenKind::Punctuation(b'.'), text == ".", "{text:?}");
+            assert_eq!(kind == TokenKind::Identifier, text.starts_with(|c: char| c.is_ascii_alphabetic() || c == '_'), "{text:?}");
+        }
+    }
+}
+
+/// A name goes as far as letters, digits, `_` and dots do; every other token is document 01's.
+#[test]
+fn names_and_other_tokens() {
+    let in_a_name = |byte: &u8| byte.is_ascii_alphanumeric() || matches!(byte, b'_' | b'.');
+    let (mut dotted, mut dots) = (0, 0);
+    let mut check = |source: &[u8]| {
+        for place in 0..=source.len() {
+            let token = Rules::NOW.token(source, place);
+            if source.get(place).is_some_and(|byte| byte.is_ascii_alphabetic() || *byte == b'_') {
+                let token = token.unwrap();
+                let length = source[place..].iter().take_while(|byte| in_a_name(byte)).count();
+                assert_eq!((token.kind, token.span.to), (TokenKind::Identifier, place + length), "{} at {place}", escaped(source));
+                dotted += source[token.span.range()].contains(&b'.') as u64;
+            } else {
+                assert_eq!(token, Rules::BASE.token(source, place), "{} at {place}", escaped(source));
+                dots += token.is_ok_and(|token| token.kind == TokenKind::Punctuation(b'.')) as u64;
+            }
+        }
+    };
+    sources::each(&sources::DOT_BYTES, 5, &mut check);
+    let mut random = Random::new(9);
+    (0..20_000).for_each(|_| check(&sources::grammar(&mut random)));
+    assert!(dotted > 10_000 && dots > 10_000, "{dotted} and {dots}");
+}
+
+/// Lookup is of the whole name: no name with a dot names anything.
+#[test]
+fn dotted_words() {
+    for word in words::spellings().into_iter().chain(words::OTHERS) {
+        assert_ne!(Rules::NOW.named(word.as_bytes()), Named::default(), "{word}");
+        for at in 0..=word.len() {
+            let dotted = format!("{}.{}", &word[..at], &word[at..]);
+            assert_eq!(Rules::NOW.named(dotted.as_bytes()), Named::default(), "{dotted}");
+        }
+        for dotted in [format!("{word}.b"), format!("{word}.."), format!("a.{word}"), format!("{word}.{word}")] {
+            assert_eq!(Rules::NOW.named(dotted.as_bytes()), Named::default(), "{dotted}");
+        }
+    }
+}
+
+/// Of statement reads, answers change that were no refusals; of patches of refused sources likewise.
+#[test]
+fn dots_beside_the_full_read() {
+    let read = |rules: Rules, source: &str, place| rules.statement_read(source.as_bytes(), place);
+    let found = |records: &str, ahead| Ok(Some((known::records(records), ahead)));
+    for (source, place, before, now) in [
+        (";a.b", 1, ("ST 1; LL 1 2", 2), ("ST 1; LL 1 4", 4)),
+        ("a.b", 0, ("ST 0; LL 0 1", 1), ("ST 0; LL 0 3", 3)),
+        ("a.b", 2, ("ST 2; LL 2 3", 3), ("ST 2; LL 2 3", 3)),
+        ("rep.x", 0, ("ST 0; LI 0 3 46 0 3 3", 3), ("ST 0; LL 0 5", 5)),
+        ("'a.b c'", 1, ("ST 1; LL 1 2", 2), ("ST 1; LL 1 4", 5)),
+        // a name that is only ahead
+        ("nop\na.b", 0, ("ST 0; LI 0 3 97 0 3 3", 4), ("ST 0; LI 0 3 97 0 3 3", 4)),
+        ("a b.c", 0, ("ST 0; LL 0 1", 2), ("ST 0; LL 0 1", 2)),
+    ] {
+        assert_eq!(read(Rules::BASE, source, place), found(before.0, before.1), "{source:?} at {place}");
+        assert_eq!(read(Rules::NOW, source, place), found(now.0, now.1), "{source:?} at {place}");
+    }
+    let call = Call { source: b"times a.b\nb", listing: b"", place: 10, text: b"c" };
+    assert_eq!(Rules::BASE.patch(&call, 99, 99), Ok((b"times a.b\nc".to_vec(), known::records("ST 10; LL 10 11"))));
+    assert_eq!(Rules::NOW.patch(&call, 99, 99).unwrap_err().number, 40);
 }
 
 /// What the program `replay` is given and must print is what is recorded.
@@ -108,15 +236,19 @@ fn evaluate() {
     assert_eq!(said(Operator::Subtract, -1, i32::MAX), Ok(i32::MIN));
 }
 
-/// The sources meet every refusal, so a comparison over them says something of each; and the limits and 60 part the models nowhere else.
+/// The sources meet every refusal, so a comparison over them says something of each. The limits and 60 part the models nowhere else; and for
+/// dots in names "only sources that were refused before change".
 #[test]
 fn sources_meet_every_refusal() {
     on_a_large_stack(|| {
-        let (mut met, mut accepted) = (Met::default(), 0);
+        let (mut met, mut accepted, mut dotted) = (Met::default(), 0, 0);
         sources::all(1, &mut |source| {
             let [original, base, now] = [Rules::ORIGINAL, Rules::BASE, Rules::NOW].map(|rules| rules.full_read(source));
             assert!(base == original || base.as_ref().is_err_and(|refusal| matches!(refusal.number, 3 | 5)), "{}", escaped(source));
-            assert!(now == base || now.as_ref().is_err_and(|refusal| refusal.number == 60), "{}", escaped(source));
+            let before = if source.contains(&b'.') { ALL_COUNTS.full_read(source) } else { base.clone() };
+            assert!(before == base || base.is_err(), "{}", escaped(source));
+            assert!(now == before || now.as_ref().is_err_and(|refusal| refusal.number == 60), "{}", escaped(source));
+            dotted += (before != base && now.is_ok()) as u64;
             match now {
                 Ok(_) => accepted += 1,
                 Err(refusal) => met.add(&refusal),
@@ -125,6 +257,7 @@ fn sources_meet_every_refusal() {
         assert!(accepted > 100_000, "only {accepted} sources are accepted");
         met.assert(&[1, 2, 3, 5, 10, 11, 12, 13, 14, 15, 16, 17, 20, 21, 22, 23, 24, 25, 26, 30, 31, 32, 33, 34]);
         assert!(met.times(60) > 10_000, "refusal 60 is met {} times only", met.times(60));
+        assert!(dotted > 10_000, "only {dotted} sources are accepted for their dots");
     });
 }
 
@@ -156,6 +289,13 @@ fn orders_on_one_line() {
         ("equ 'c\ndb 256\n", 16),
         ("db 256\ndb\n", 60),
         ("db\ndb 256\n", 23),
+        // beside a dot in a name, and in the line above
+        ("a. db 256", 60),
+        ("k equ. db 256", 60),
+        ("a.b equ 5\ndb 256\n", 60),
+        ("db 256\na.b equ 5\n", 60),
+        ("times a.b\ndb 256\n", 60),
+        ("in [es:]a.b\ndb 256\n", 32),
     ]
     .map(|(source, number)| (source.as_bytes(), number))
     .into();
@@ -169,21 +309,23 @@ fn orders_on_one_line() {
     assert!(wanted.is_empty(), "not among the sources: {:?}", wanted.keys().map(|source| escaped(source)).collect::<Vec<_>>());
 }
 
-/// Of random sources some are refused with 60, and more are accepted.
+/// Of random sources some are refused with 60, and more are accepted, some of them for their dots.
 #[test]
 fn random_sources() {
-    let (mut random, mut wide, mut accepted) = (Random::new(8), 0, 0);
+    let (mut random, mut wide, mut accepted, mut dotted) = (Random::new(8), 0, 0, 0);
     for _ in 0..10_000 {
-        match refused(Rules::NOW, &sources::grammar(&mut random)) {
+        let source = sources::grammar(&mut random);
+        match refused(Rules::NOW, &source) {
             Some(60) => wide += 1,
             None => accepted += 1,
-            _ => {}
+            _ => continue,
         }
+        dotted += refused(Rules::BASE, &source).is_some() as u64;
     }
-    assert!(wide > 200 && wide < 1000 && accepted > 2000, "{wide} and {accepted}");
+    assert!(wide > 200 && wide < 1000 && accepted > 2000 && dotted > 200, "{wide}, {accepted} and {dotted}");
 }
 
-/// 60 is at a number that its word doesn't hold. Up to and with it document 01 accepts the source, whose last line is then data; a literal
+/// 60 is at a number that its word doesn't hold. Up to and with it the rules without 60 accept the source, whose last line is then data; a literal
 /// was due there; and whatever stands behind it, the answer is the same.
 #[test]
 fn wide_numbers() {
@@ -198,12 +340,12 @@ fn wide_numbers() {
             let token = Rules::NOW.token(source, span.from).unwrap();
             let TokenKind::Number(value) = token.kind else { panic!("{}: no number", escaped(source)) };
             assert_eq!(token.span, span, "{}", escaped(source));
-            let listing = Rules::BASE.full_read(&source[..span.to]).unwrap();
+            let listing = ALL_COUNTS.full_read(&source[..span.to]).unwrap();
             // The last record but those of `times` is the line's data, which ends in the low bytes of the number.
             let records = model::split(&listing);
             let data = records.iter().rfind(|record| !record.starts_with(b"LT")).unwrap();
             assert!(data.starts_with(b"LD"), "{}", escaped(source));
-            let before = Rules::BASE.full_read(&[&source[..span.from], b"'"].concat()).unwrap_err();
+            let before = ALL_COUNTS.full_read(&[&source[..span.from], b"'"].concat()).unwrap_err();
             assert_eq!((before.number, before.span.from), (26, span.from), "{}", escaped(source));
             // The word is the last name before.
             let name = source[..span.from].iter().rposition(|byte| matches!(byte, b'b' | b'B' | b'w' | b'W')).unwrap();
@@ -266,7 +408,7 @@ fn known_patches() {
             assert_eq!(rules.patch(&known.call(), usize::MAX, usize::MAX), known.answer, "{}", shown(&known.call()));
         }
     }
-    assert_eq!(known::under(Rules::NOW).len() - known::under(Rules::BASE).len(), 3);
+    assert_eq!(known::under(Rules::NOW).len() - known::under(Rules::BASE).len(), 3 + 13);
 }
 
 /// The rule of the patch gives what the full read of the edited source gives, wherever the old source is accepted, its listing

@@ -1,9 +1,11 @@
 //! The original: the model of it says the same, the rules part from it where they are said to, and docs/DIFFERENCES.md is right about it.
 #![cfg(original)]
 use differential::answer::shown;
-use differential::departures::{left_out, left_out_statement, Asked, Why};
+use differential::departures::{left_out, left_out_statement, left_out_tokens, underscored, Asked, Why};
+use differential::model::Rules;
 use differential::reads::on_a_large_stack;
 use differential::{original, recorded, sources, words};
+use laqhoncu::TokenKind;
 use mrc_compiler::ast::Operator;
 use mrc_compiler::parser::Parser;
 use std::hint::black_box;
@@ -28,7 +30,8 @@ fn model_and_original_agree() {
         let mut asked = Asked::default();
         sources::all(1, &mut |source| asked.full_read(source));
         assert!(asked.asked > 500_000 && Why::ALL.iter().all(|why| asked.left_out(*why) > 20), "{asked:?}");
-        assert!(asked.left_out(Why::WideNumber) > 10_000, "{asked:?}");
+        assert!(asked.left_out(Why::WideNumber) > 10_000 && asked.left_out(Why::DottedName) > 10_000, "{asked:?}");
+        assert!(asked.underscored > 10_000, "{asked:?}");
     });
 }
 
@@ -67,6 +70,41 @@ fn left_out_sources() {
         ("times db 256", None),
         ("db 2147483648", None),
         ("equ 2b\ndb 256", None),
+        ("w12.a equ 5", Some(Why::DottedName)),
+        ("a.", Some(Why::DottedName)),
+        ("in [bx+si..b]", Some(Why::DottedName)),
+        ("1bh.x", Some(Why::DottedName)),
+        ("equ *5\na.b", Some(Why::DottedName)),
+        ("a.2b", Some(Why::DottedName)),
+        // not directly behind, or behind no name
+        (".a", None),
+        ("a .b", None),
+        ("a\n.b", None),
+        ("a:.b", None),
+        ("1.a", None),
+        ("12h.a", None),
+        ("db 'a'.b", None),
+        ("equ $.a", None),
+        ("in [1].a", None),
+        ("db 'a.b'", None),
+        ("; a.b", None),
+        ("a ;.b", None),
+        // behind a refused number nothing is read
+        ("2b a.b", None),
+        // what is met before the name counts first
+        ("db 256 a.b", Some(Why::WideNumber)),
+        ("a db 256\na.b", Some(Why::WideNumber)),
+        ("a.b db 256", Some(Why::DottedName)),
+        ("x.db 256", Some(Why::DottedName)),
+        ("db.256", Some(Why::DottedName)),
+        (&format!("{deep}\na.b"), Some(Why::Limits)),
+        (&format!("a.b {deep}"), Some(Why::DottedName)),
+        (&format!("equ {}a.b", "-".repeat(32)), Some(Why::DottedName)),
+        (&format!("equ {}1+a.b", "-".repeat(32)), Some(Why::Limits)),
+        (&format!("{nested}.b"), Some(Why::Limits)),
+        (&format!("{}times.x", "times 1 ".repeat(16)), Some(Why::DottedName)),
+        ("a.b ;\u{80}", Some(Why::Foreign)),
+        (&"a.".repeat(32769), Some(Why::Long)),
         (&deep, Some(Why::Limits)),
         (&nested, Some(Why::Limits)),
         ("db 1;\u{80}", Some(Why::Foreign)),
@@ -77,6 +115,42 @@ fn left_out_sources() {
     // Of a statement read, what that statement takes.
     for (place, why) in [(0, None), (2, Some(Why::WideNumber)), (8, None), (9, None), (11, None)] {
         assert_eq!(left_out_statement(b"a\ndb 256\nb db 1", place), why, "{place}");
+    }
+    // The token ahead is read too.
+    let reached: [(&str, &[usize]); 5] =
+        [("nop\n\na b.c", &[3, 4, 5, 6, 7]), (";a.b", &[1]), ("rep.x", &[0, 1, 2]), ("in [es:]a.b", &[0, 8]), ("equ * 1 a.b", &[7, 8])];
+    for (source, places) in reached {
+        for place in 0..=source.len() {
+            let why = places.contains(&place).then_some(Why::DottedName);
+            assert_eq!(left_out_statement(source.as_bytes(), place), why, "{source:?} at {place}");
+        }
+    }
+    for (source, parted) in [("a.b", true), ("1bh.", true), ("1.a", false), ("'a.b' .c", false), ("2b a.b", false)] {
+        assert_eq!(left_out_tokens(source), parted, "{source:?}");
+    }
+}
+
+/// Which dots belong to a name.
+#[test]
+fn underscored_sources() {
+    for (source, place, expected) in [
+        ("w12.a equ b.c.d", 0, "w12_a equ b_c_d"),
+        ("a.", 0, "a_"),
+        ("a..b:", 0, "a__b:"),
+        ("a.2b c.d", 0, "a_2b c_d"),
+        ("a. .b.", 0, "a_ .b_"),
+        ("1.a 0b.1 10b.x 1bh.x", 0, "1.a 0b_1 10b.x 1bh_x"),
+        ("in [bx.a].b ;c.d\n'e.f'.g.h", 0, "in [bx_a].b ;c.d\n'e.f'.g_h"),
+        (";a.b\nc.d", 0, ";a.b\nc_d"),
+        (";a.b\nc.d", 1, ";a_b\nc_d"),
+        ("a.b.c", 1, "a.b_c"),
+        // up to a refused number
+        ("a.b 12b c.d", 0, "a_b 12b c.d"),
+    ] {
+        assert_eq!(underscored(source, place).as_deref(), Some(expected), "{source:?} at {place}");
+    }
+    for source in ["", "a", ".a", "1.a", "a .b", "'a.b'", ";a.b", "a:.", "2b a.b"] {
+        assert_eq!(underscored(source, 0), None, "{source:?}");
     }
 }
 
@@ -167,6 +241,23 @@ fn differences_from_the_original() {
     ] {
         assert_eq!(shown(&original::read(source.as_bytes())).trim_end().replace('\n', ";"), expected);
     }
+    // A dot behind a name is a token of its own, which no statement takes; here it belongs to the name.
+    let kinds: Vec<TokenKind> = original::tokens("w12.a").0.iter().map(|placed| original::kind_of(&placed.token)).collect();
+    assert_eq!(kinds, [TokenKind::Identifier, TokenKind::Punctuation(b'.'), TokenKind::Identifier]);
+    for (source, there, here) in [
+        ("w12.a", "REF 20 3 4 255 255", "ST 0; LL 0 5; END 2"),
+        ("w12.a equ 5", "REF 20 3 4 255 255", "ST 0; LL 0 5; ST 6; VC 10 11 5; LC 6 11; END 5"),
+        ("in a.b", "REF 11 4 5 255 255", "ST 0; VL 3 6; OI 3 6; LI 0 6 4 1 3 6; END 4"),
+        ("in ax.b", "REF 11 5 6 255 255", "ST 0; VL 3 7; OI 3 7; LI 0 7 4 1 3 7; END 4"),
+        ("equ a.b", "REF 10 5 6 255 255", "ST 0; VL 4 7; LC 0 7; END 3"),
+        ("in [bx.a]", "REF 21 6 7 255 255", "ST 0; VL 4 8; OD 3 9 0 0; LI 0 9 4 1 3 9; END 4"),
+        ("mov.x", "REF 21 3 4 255 255", "ST 0; LL 0 5; END 2"),
+        ("times a.b", "REF 20 7 8 255 255", "REF 34 0 5 255 255"),
+        ("times 2 a.", "REF 20 9 10 255 255", "ST 0; VC 6 7 2; LL 8 10; LT 0 0; END 4"),
+    ] {
+        assert_eq!(recorded::read_of(&original::read(source.as_bytes())), there, "{source:?}");
+        assert_eq!(recorded::read_of(&Rules::NOW.full_read(source.as_bytes())), here, "{source:?}");
+    }
     // 30 to 34 stand for its panics, and for nothing else.
     for (number, source) in [(30, "dw 0abh"), (31, "equ 0x80000000"), (32, "mov ax,[es:]"), (33, "mov ax,[si+di]"), (34, "times 2")] {
         assert!(original::caught(|| Parser::new(source).parse_line().is_ok()).is_err(), "{source:?} is no panic");
@@ -202,6 +293,7 @@ fn evaluate_of_the_original() {
 fn recorded_answers() {
     let text = |bytes: &[u8]| String::from_utf8(bytes.to_vec()).unwrap();
     for (source, expected) in recorded::entries(recorded::TOKENS) {
+        assert!(!left_out_tokens(&text(&source)), "{}: a request parts there", recorded::escaped(&source));
         let said = recorded::tokens_of(&source, &mut |source, place| original::token_at(&text(source), place));
         assert_eq!(said, expected, "{}", recorded::escaped(&source));
     }

@@ -132,7 +132,7 @@ fn reads(rules: Rules, long: bool) {
 }
 
 fn patches(rules: Rules, long: bool) {
-    let count = patches::compare(rules, if long { 1_000_000 } else { 100_000 }, patch);
+    let count = patches::compare(rules, if long { 1_100_000 } else { 110_000 }, patch);
     assert!(count.calls > 100_000 && count.accepted > 10_000, "too little was compared");
     assert!(count.replaced_foreign > 1000 && count.too_long > 100 && count.old_listings > 1000, "too little was compared");
     // A new line that is refused with 34 is refused with 40 before.
@@ -156,7 +156,7 @@ fn patches(rules: Rules, long: bool) {
     assert!(refused > 1000 && calls - refused > 1000, "too little was compared");
     println!("damaged listings: {calls} calls, {refused} refused with 41: all as a second checker says");
     println!("order of refusals: {} sets of causes, each refused by its first", patches::order(rules, patch));
-    let wanted = if long { 3_000_000 } else { 300_000 };
+    let wanted = if long { 3_010_000 } else { 301_000 };
     let [calls, accepted, refused, open] = patches::as_full_read(rules, wanted, patch, laqhoncu::full_read);
     assert!(accepted > 50_000 && refused > 10_000 && open > 1000, "too little was compared");
     println!(

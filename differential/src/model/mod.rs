@@ -27,15 +27,17 @@ pub struct Rules {
     pub nesting: usize,
     /// "In `db` a number above 255, and in `dw` a number above 65,535, must be refused": 60. Document 02, Ask 1.
     pub counts_fit: bool,
+    /// "After its first character a name may hold a dot." Document 02, Ask 2.
+    pub dots_in_names: bool,
 }
 
 impl Rules {
     /// What the original does, with its panics as 30 to 34.
-    pub const ORIGINAL: Self = Self { depth: usize::MAX, nesting: usize::MAX, counts_fit: false };
+    pub const ORIGINAL: Self = Self { depth: usize::MAX, nesting: usize::MAX, counts_fit: false, dots_in_names: false };
     /// Document 01.
     pub const BASE: Self = Self { depth: 32, nesting: 16, ..Self::ORIGINAL };
     /// Documents 01 and 02, as far as they are followed.
-    pub const NOW: Self = Self { counts_fit: true, ..Self::BASE };
+    pub const NOW: Self = Self { counts_fit: true, dots_in_names: true, ..Self::BASE };
 
     /// The token read: 42, 1 and 2 come before the token.
     pub fn token_read(&self, source: &[u8], place: usize) -> Result<Token, Refusal> {

@@ -15,7 +15,8 @@ impl Rules {
             // "A comment runs from `;` to before the line feed."
             b';' => (TokenKind::Comment, run(rest, |byte| byte != b'\n')),
             b'\n' => (TokenKind::NewLine, 1),
-            b'a'..=b'z' | b'A'..=b'Z' | b'_' => (TokenKind::Identifier, run(rest, |byte| byte.is_ascii_alphanumeric() || byte == b'_')),
+            // "A dot that starts a token stays punctuation."
+            b'a'..=b'z' | b'A'..=b'Z' | b'_' => (TokenKind::Identifier, run(rest, |byte| self.in_names(byte))),
             b'0'..=b'9' => self.number(rest).map_err(|(number, length)| Refusal::at(number, place, place + length))?,
             // "A quoted string ends at the next `'` (closed) or before the line feed or end (unclosed)."
             b'\'' => {
@@ -27,6 +28,11 @@ impl Rules {
             _ => (TokenKind::Invalid(first), 1),
         };
         Ok(Token { kind, span: Span { from: place, to: place + length } })
+    }
+
+    /// What a name may hold after its first character.
+    fn in_names(&self, byte: u8) -> bool {
+        byte.is_ascii_alphanumeric() || byte == b'_' || (self.dots_in_names && byte == b'.')
     }
 
     /// The number at the start of a text, and its length; or its refusal and the length of what that is about.
