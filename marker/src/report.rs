@@ -69,7 +69,7 @@ fn too_wide(source: &[u8], number: Span) -> Option<String> {
 /// A refusal at a dot, with where a dot may stand: one that is a token of its own is accepted nowhere.
 fn lone_dot(source: &[u8], refused: &Refusal, span: Span) -> Option<String> {
     let is_dot = token(source, span.from).ok()?.kind == TokenKind::Punctuation(b'.');
-    is_dot.then(|| format!("{refused}; a dot stands only in a name, behind its first character"))
+    is_dot.then(|| format!("{refused}; outside quotes a dot stands only in a name, behind its first character"))
 }
 
 /// A number with a comma before each three digits.
@@ -183,7 +183,7 @@ mod tests {
     #[test]
     fn a_dot_that_is_no_part_of_a_name() {
         let words = |source: &str| said(source).lines().next().unwrap().to_string();
-        let hint = "a dot stands only in a name, behind its first character";
+        let hint = "outside quotes a dot stands only in a name, behind its first character";
         assert_eq!(words("nop\nw12 .a equ 5"), format!("f:2:5: an instruction is expected; {hint}"));
         assert_eq!(words("dw 1.5"), format!("f:1:5: a number or a quoted text is expected; {hint}"));
         assert_eq!(words("equ $.a"), format!("f:1:6: the end of the line is expected; {hint}"));

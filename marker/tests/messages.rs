@@ -32,7 +32,7 @@ fn rows() -> Vec<Row> {
         row(16, "equ 'a", 4, 6, "a quoted text with its closing quote is expected"),
         row(17, "equ 'ab'", 4, 8, "a quoted text of one character is expected"),
         row(20, "1", 0, 1, "an instruction is expected"),
-        row(20, "w12 .a equ 5", 4, 5, "an instruction is expected; a dot stands only in a name, behind its first character"),
+        row(20, "w12 .a equ 5", 4, 5, "an instruction is expected; outside quotes a dot stands only in a name, behind its first character"),
         row(21, "mov ,", 4, 5, "a value or an operand is expected"),
         row(21, "equ 2147483648", 4, 5, "a value or an operand is expected"),
         // The rules give it no place, and a person gets the operator's.

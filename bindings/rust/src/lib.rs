@@ -85,7 +85,7 @@ pub enum TokenKind {
     NewLine,
     /// Nothing is left; the one token without a byte.
     EndOfFile,
-    /// A name, an operation, a register, ..: a letter or `_`, then letters, digits, `_` and dots.
+    /// A word, as a name, an operation or a register: a letter or `_`, then letters, digits, `_` and dots.
     Identifier,
     /// A number, and its value.
     Number(i32),

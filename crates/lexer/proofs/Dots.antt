@@ -1,7 +1,7 @@
 -- Dots in names. The run of a name with dots goes on where the run without them meets one, and else ends with it.
 use mathlib.Core.Path.{_≡_, refl, sym, _∙_}
 use mathlib.Core.Bool.{Bool, true, false, _&&_, _||_, false≢true}
-use mathlib.Core.List.{List, [], _∷_}
+use mathlib.Core.List.{List, [], _∷_, map}
 use mathlib.Core.Logic.{⊎-elim}
 use Prim.Native.Nat.{ℕ, suc, _<_}
 use Prim.Native.Char.{Char, code}
@@ -11,7 +11,7 @@ use lib.ListN.{getD}
 use borrow.Author.Tests.{eqb-true, leb-true}
 use Rattle.lexer.specs.Text.{if_then_else_, is, within, isLetter, isWordPart, run}
 use Rattle.lexer.specs.Tokens.{mark, tokenAt, sizeOf, openTokens}
-use Rattle.lexer.specs.Dots.{isPlainPart, plainToken, dotFollows, DottedNames}
+use Rattle.lexer.specs.Dots.{isPlainPart, plainToken, dotFollows, underscored, DottedNames}
 use Rattle.lexer.specs.declared.PunctuationKind.the-variants.{Dot}
 use Rattle.lexer.specs.declared.Token.the-variants.{Identifier}
 use Rattle.lexer.specs.declared.TokenRead.the-variants.{Read}
@@ -75,10 +75,36 @@ others (c ∷ cs) h = go (isLetter c) refl h
     go true e d = rw (name-at c cs e, run-same cs d)
     go false e d = refl
 
+-- A name takes a dot as it takes `_`.
+part-as : (c : ℕ) → isPlainPart (underscored c) ≡ isWordPart c
+unfolding underscored isPlainPart isLetter within is
+part-as c = go (is "." c) refl
+  where
+    or-true : (b : Bool) → b || true ≡ true
+    or-true true = refl
+    or-true false = refl
+
+    or-false : (b : Bool) → b || false ≡ b
+    or-false true = refl
+    or-false false = refl
+
+    go : (b : Bool) → is "." c ≡ b → isPlainPart (if b then (code "_") else c) ≡ isWordPart c
+    go true e = sym (part-is c ∙ rw e (or-true (isPlainPart c)))
+    go false e = sym (part-is c ∙ rw e (or-false (isPlainPart c)))
+
+run-as : (cs : List ℕ) → run isPlainPart (map underscored cs) ≡ run isWordPart cs
+unfolding run
+run-as [] = refl
+run-as (c ∷ cs) = rw (part-as c, run-as cs)
+
+exact : (c : ℕ) (cs : List ℕ) → isLetter c ≡ true → tokenAt (c ∷ cs) ≡ plainToken (c ∷ map underscored cs)
+unfolding plainToken
+exact c cs h = rw (name-at c cs h, h, run-as cs)
+
 starts : (s : List ℕ) → tokenAt (code "." ∷ s) ≡ mark Dot
 unfolding openTokens
 starts s = refl
 
 -- THE TOKENS THAT CHANGE.
 pub dotted-names : DottedNames
-dotted-names = record { longer = longer; others = others; starts = starts }
+dotted-names = record { longer = longer; others = others; exact = exact; starts = starts }

@@ -2,7 +2,7 @@
 -- stays punctuation. The rule itself is `isWordPart`, in Text.
 use mathlib.Core.Path.{_≡_}
 use mathlib.Core.Bool.{Bool, true, false, _&&_, _||_}
-use mathlib.Core.List.{List, [], _∷_}
+use mathlib.Core.List.{List, [], _∷_, map}
 use Prim.Native.Nat.{ℕ, suc, _<_}
 use Prim.Native.Char.{code}
 use lib.ListN.{getD}
@@ -13,8 +13,8 @@ use Rattle.lexer.specs.declared.Token.the-variants.{Identifier}
 use Rattle.lexer.specs.declared.TokenRead.{TokenRead}
 use Rattle.lexer.specs.declared.TokenRead.the-variants.{Read}
 
--- The token by document 01 alone, and by the Rust: a name goes on with letters, digits and `_`. Nothing is read so; it is here to be compared
--- with.
+-- The token with document 01's names, which are the Rust's: a name goes on with letters, digits and `_`. All else is as in `tokenAt`. Nothing is
+-- read so; it is here to be compared with.
 unfoldable pub isPlainPart : ℕ → Bool
 isPlainPart c = isLetter c || isDigit c
 
@@ -27,13 +27,18 @@ unfoldable pub dotFollows : List ℕ → Bool
 dotFollows [] = false
 dotFollows (c ∷ cs) = isLetter c && is "." (getD cs (run isPlainPart cs) 0)
 
--- THE TOKENS THAT CHANGE are the names that a dot follows directly: they are longer. A dot that starts a token is punctuation, whatever stands
--- behind it.
+-- A dot as `_`, which those names hold too.
+unfoldable pub underscored : ℕ → ℕ
+underscored c = if is "." c then code "_" else c
+
+-- THE TOKENS THAT CHANGE are the names that a dot follows directly: they are longer. A name takes the dots behind its first character just as it
+-- takes `_`. A dot that starts a token is punctuation, whatever stands behind it.
 pub record DottedNames : Type 0 where
   pub longer : (s : List ℕ) → dotFollows s ≡ true → sizeOf (plainToken s) < sizeOf (tokenAt s)
   pub others : (s : List ℕ) → dotFollows s ≡ false → tokenAt s ≡ plainToken s
+  pub exact : (c : ℕ) (cs : List ℕ) → isLetter c ≡ true → tokenAt (c ∷ cs) ≡ plainToken (c ∷ map underscored cs)
   pub starts : (s : List ℕ) → tokenAt (code "." ∷ s) ≡ mark Dot
 
 unfoldable pub openDots : Unit {0}
-unfolding isPlainPart plainToken dotFollows
+unfolding isPlainPart plainToken dotFollows underscored
 openDots = tt

@@ -6,6 +6,7 @@ use Prim.Native.Char.{Char, code}
 use Prim.Native.String.{String}
 use Rattle.lexer.specs.Text.{if_then_else_, bytes, isHexDigit, digit, openText}
 use Rattle.lexer.specs.Tokens.{numeral, stray, mark, tokenAt, openTokens}
+use Rattle.lexer.specs.Dots.{plainToken, openDots}
 use Rattle.lexer.specs.declared.PunctuationKind.the-variants.{Dot}
 use Rattle.lexer.specs.declared.Token.the-variants.{Identifier}
 use Rattle.lexer.specs.declared.Fault.the-variants.{LargerDigit, TooLarge}
@@ -63,6 +64,12 @@ dots =
 pub dots-known : Agree dots
 unfolding openTokens dots Agree
 dots-known = (refl, (refl, (refl, (refl, (refl, (refl, tt))))))
+
+-- By document 01's names a name ends before its first dot.
+pub plain-known : (plainToken (bytes "w12.a equ 5") ≡ Read (Identifier 3)) × (plainToken (bytes "_a1 .b") ≡ Read (Identifier 3))
+    × (plainToken (bytes ".a") ≡ mark Dot)
+unfolding openTokens openDots
+plain-known = (refl, refl, refl)
 
 -- A digit's character, as a byte, and what the digit is worth.
 pub record Worth : Type 0 where

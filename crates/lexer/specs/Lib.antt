@@ -2,5 +2,5 @@ pub mod Text
 pub mod Tokens
 pub mod Runs
 pub mod Scanned
-pub mod Known
 pub mod Dots
+pub mod Known

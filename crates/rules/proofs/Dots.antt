@@ -21,7 +21,7 @@ use Rattle.rules.specs.Records.{Record}
 use Rattle.rules.specs.Reader.{Refusal, at, nowhere, Answer, isMark, isLineEnd}
 use Rattle.rules.specs.Statements.{Profile, Row, State, push, rows, Outcome, outcome, readRows, readFrom, reading}
 use Rattle.rules.specs.Calls.{Result, gives, refuses, unless, tooLong, foreign, ascii, lent, lentAt, tokenRead, tokenCall, listed, fullRead, oneFound, oneRead, statementCall}
-use Rattle.rules.specs.Dots.{dotBehindName, tokenBy, statementBy, fullBy, ByRule, SameWithoutDots, OnlyRefused}
+use Rattle.rules.specs.Dots.{dotBehindName, tokenBy, statementBy, fullBy, ByRule, SameWithoutDots, OnlyRefused, loneDot, LoneDotsRefused}
 use Rattle.rules.proofs.TokenKinds.{mark-inside}
 use Rattle.rules.proofs.Cut.{tokens-finished, tokens-count, begins-with}
 use Rattle.rules.proofs.DotsStay.{Dotted, here, further, Beneath, first, later, Denied, begins-denied}
@@ -49,16 +49,21 @@ put-dot : (p : ℕ) (t : TokenRead) (s : List ℕ) (xs : List Lexeme) → HasDot
 unfolding put
 put-dot p t s xs h = either HasDot (isGap (kindOf t s)) xs (lexeme p t s ∷ xs) h (tail h)
 
--- The byte behind k others is a dot, and begins a token.
-dot-token : (p : ℕ) (cs : List ℕ) (xs : List Lexeme) → HasDot (put p (plainToken (code "." ∷ cs)) (code "." ∷ cs) xs)
-unfolding openLexemes plainToken isMark
-dot-token p cs xs = head refl
+-- A dot that begins a token is one, by both rules.
+dot-token : (p c : ℕ) (cs : List ℕ) (xs : List Lexeme) → is "." c ≡ true → HasDot (put p (tokenAt (c ∷ cs)) (c ∷ cs) xs)
+unfolding openLexemes isMark is
+dot-token p c cs xs h = rw (eqb-true c (code ".") h) (head refl)
 
+plain-dot : (c : ℕ) (cs : List ℕ) → is "." c ≡ true → plainToken (c ∷ cs) ≡ tokenAt (c ∷ cs)
+unfolding openTokens plainToken is
+plain-dot c cs h = rw (eqb-true c (code ".") h)
+
+-- The byte behind k others is a dot.
 dot-ahead : (p k : ℕ) (cs : List ℕ) → is "." (getD cs k 0) ≡ true → HasDot (tokensBy plainToken p k cs)
 unfolding tokensBy is
 dot-ahead p zero [] h = absurd (false≢true h)
 dot-ahead p (suc k) [] h = absurd (false≢true h)
-dot-ahead p zero (c ∷ cs) h = rw (eqb-true c (code ".") h) (dot-token p cs _)
+dot-ahead p zero (c ∷ cs) h = rw (plain-dot c cs h) (dot-token p c cs _ h)
 dot-ahead p (suc k) (c ∷ cs) h = dot-ahead (suc p) k cs h
 
 -- what stands behind the first token
@@ -76,6 +81,14 @@ unfolding tokensBy dotBehindName
 tokens-dotted p k [] h = absurd (false≢true h)
 tokens-dotted p (suc k) (c ∷ cs) h = tokens-dotted (suc p) k cs h
 tokens-dotted p zero (c ∷ cs) h = put-dot p (plainToken (c ∷ cs)) (c ∷ cs) _ (⊎-elim (name-dotted p c cs) (λ i. tokens-dotted (suc p) _ cs i) (one-of (dotFollows (c ∷ cs)) _ h))
+
+-- A dot that starts a token.
+tokens-lone : (p k : ℕ) (s : List ℕ) → loneDot k s ≡ true → HasDot (tokensBy tokenAt p k s)
+unfolding tokensBy loneDot
+tokens-lone p k [] h = absurd (false≢true h)
+tokens-lone p (suc k) (c ∷ cs) h = tokens-lone (suc p) k cs h
+tokens-lone p zero (c ∷ cs) h =
+    ⊎-elim (dot-token p c cs _) (λ i. put-dot p (tokenAt (c ∷ cs)) (c ∷ cs) _ (tokens-lone (suc p) _ cs i)) (one-of (is "." c) _ h)
 
 -- In rows.
 push-head : (x : Lexeme) (l : List Row) → isMark "." (x .kind) ≡ true → Beneath (push x l)
@@ -128,12 +141,20 @@ module _ (profile : Profile) where
       go false none = (r, refl)
       go false (some p) = (at 2 p (suc p), refl)
 
-  dot-refused : (source : List ℕ) (room : ℕ) → dotBehindName 0 source ≡ true → (r : Refusal) × (fullBy plainToken profile source room ≡ refuses r)
+  -- A dot among the tokens is refused, whatever their rule.
+  has-dot-refused : (rule : List ℕ → TokenRead) (source : List ℕ) (room : ℕ) → HasDot (tokensBy rule 0 0 source) → (r : Refusal) × (fullBy rule profile source room ≡ refuses r)
   unfolding fullBy
-  dot-refused source room h =
-      let xs : List Lexeme = tokensBy plainToken 0 0 source in
+  has-dot-refused rule source room h =
+      let xs : List Lexeme = tokensBy rule 0 0 source in
       lent-denied source room (readRows profile (suc (length source)) (rows xs))
-      (begins-denied profile (begins-with profile xs (length source) (tokens-finished plainToken 0 0 source) (tokens-count plainToken 0 0 source)) (rows-dotted (tokens-dotted 0 0 source h)))
+      (begins-denied profile (begins-with profile xs (length source) (tokens-finished rule 0 0 source) (tokens-count rule 0 0 source)) (rows-dotted h))
+
+  dot-refused : (source : List ℕ) (room : ℕ) → dotBehindName 0 source ≡ true → (r : Refusal) × (fullBy plainToken profile source room ≡ refuses r)
+  dot-refused source room h = has-dot-refused plainToken source room (tokens-dotted 0 0 source h)
+
+  -- A LONE DOT IS REFUSED.
+  pub lone-dots-refused : LoneDotsRefused profile
+  lone-dots-refused = record { ofFullRead = λ source room h. let (r, e) = has-dot-refused tokenAt source room (tokens-lone 0 0 source h) in (r, by-rule .ofFullRead source room ∙ e) }
 
   -- ONLY SOURCES THAT WERE REFUSED CHANGE.
   pub only-refused : OnlyRefused profile

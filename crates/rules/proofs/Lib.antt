@@ -37,3 +37,4 @@ pub mod Data
 pub mod WideRefused
 pub mod DotsStay
 pub mod Dots
+pub mod DotsRead

@@ -160,6 +160,27 @@ pub dotted-known : Agree dotted
 unfolding openCalls spellings row rowsOf operations dotted read wanted Agree
 dotted-known = (refl, (refl, (refl, (refl, (refl, (refl, (refl, (refl, (refl, (refl, (refl, (refl, tt))))))))))))
 
+-- What some of these sources got before.
+unfoldable pub before : List Sample
+before =
+    "w12.a equ 5" reads refuses (at 20 3 4)
+    ∷ "a. b" reads refuses (at 20 1 2)
+    ∷ "in ax.b" reads refuses (at 11 5 6)
+    ∷ "in [bx.a]" reads refuses (at 21 6 7)
+    ∷ "mov.x ax" reads refuses (at 21 3 4)
+    ∷ "k equ.5" reads refuses (at 21 5 6)
+    ∷ "times a.b" reads refuses (at 20 7 8)
+    ∷ "equ *a.b" reads refuses (nowhere 22)
+    ∷ []
+
+unfoldable pub Before : List Sample → Type 0
+Before [] = Unit {0}
+Before (k ∷ ks) = (fullBy plainToken present (bytes (k .source)) (enough (bytes (k .source))) ≡ wanted k) × Before ks
+
+pub before-known : Before before
+unfolding openCalls openDots fullBy spellings row rowsOf operations before wanted Before
+before-known = (refl, (refl, (refl, (refl, (refl, (refl, (refl, (refl, tt))))))))
+
 -- That only refused sources change is true of the full read. `;a.b` is accepted, before and now, and its statement at place 1 is another now.
 pub inside-a-comment : (fullRead present (bytes ";a.b") 0 ≡ gives []) × (fullBy plainToken present (bytes ";a.b") 0 ≡ gives [])
     × (statementCall present (bytes ";a.b") 1 100 ≡ gives (found (ST 1 ∷ LL 1 4 ∷ []) 4))
