@@ -181,12 +181,19 @@ pub before-known : Before before
 unfolding openCalls openDots fullBy spellings row rowsOf operations before wanted Before
 before-known = (refl, (refl, (refl, (refl, (refl, (refl, (refl, (refl, tt))))))))
 
--- That only refused sources change is true of the full read. `;a.b` is accepted, before and now, and its statement at place 1 is another now.
+-- That only refused sources change is true of the full read, and not of the statement read. `;a.b` is accepted, before and now, and its statement
+-- at place 1 is another now; `a.b` was refused, and its statement at 0 was not.
 pub inside-a-comment : (fullRead present (bytes ";a.b") 0 ≡ gives []) × (fullBy plainToken present (bytes ";a.b") 0 ≡ gives [])
     × (statementCall present (bytes ";a.b") 1 100 ≡ gives (found (ST 1 ∷ LL 1 4 ∷ []) 4))
     × (statementBy plainToken present (bytes ";a.b") 1 100 ≡ gives (found (ST 1 ∷ LL 1 2 ∷ []) 2))
 unfolding openCalls openDots fullBy statementBy spellings row rowsOf operations
 inside-a-comment = (refl, refl, refl, refl)
+
+pub before-a-dot : (fullBy plainToken present (bytes "a.b") 100 ≡ refuses (at 20 1 2))
+    × (statementBy plainToken present (bytes "a.b") 0 100 ≡ gives (found (ST 0 ∷ LL 0 1 ∷ []) 1))
+    × (statementCall present (bytes "a.b") 0 100 ≡ gives (found (ST 0 ∷ LL 0 3 ∷ []) 3))
+unfolding openCalls openDots fullBy statementBy spellings row rowsOf operations
+before-a-dot = (refl, refl, refl)
 
 -- Samples of `evaluate`: an operator's number, two numbers, the answer.
 pub record Evaluation : Type 0 where
