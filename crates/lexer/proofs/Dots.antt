@@ -1,6 +1,6 @@
 -- Dots in names. The run of a name with dots goes on where the run without them meets one, and else ends with it.
 use mathlib.Core.Path.{_≡_, refl, sym, _∙_}
-use mathlib.Core.Bool.{Bool, true, false, _&&_, _||_, false≢true}
+use mathlib.Core.Bool.{Bool, true, false, _&&_, _||_, or-true, or-false, false≢true}
 use mathlib.Core.List.{List, [], _∷_, map}
 use mathlib.Core.Logic.{⊎-elim}
 use Prim.Native.Nat.{ℕ, suc, _<_}
@@ -80,17 +80,9 @@ part-as : (c : ℕ) → isPlainPart (underscored c) ≡ isWordPart c
 unfolding underscored isPlainPart isLetter within is
 part-as c = go (is "." c) refl
   where
-    or-true : (b : Bool) → b || true ≡ true
-    or-true true = refl
-    or-true false = refl
-
-    or-false : (b : Bool) → b || false ≡ b
-    or-false true = refl
-    or-false false = refl
-
     go : (b : Bool) → is "." c ≡ b → isPlainPart (if b then (code "_") else c) ≡ isWordPart c
-    go true e = sym (part-is c ∙ rw e (or-true (isPlainPart c)))
-    go false e = sym (part-is c ∙ rw e (or-false (isPlainPart c)))
+    go true e = sym (part-is c ∙ rw (e, or-true))
+    go false e = sym (part-is c ∙ rw (e, or-false))
 
 run-as : (cs : List ℕ) → run isPlainPart (map underscored cs) ≡ run isWordPart cs
 unfolding run

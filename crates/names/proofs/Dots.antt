@@ -1,15 +1,15 @@
 -- A name that holds a dot names nothing: no name and no spelling of the table holds one, by a test over them all.
 use mathlib.Core.Path.{_≡_, refl, sym, ap, _∙_}
-use mathlib.Core.Bool.{Bool, true, false, not, _&&_, _||_, true≢false, false≢true}
+use mathlib.Core.Bool.{Bool, true, false, not, _&&_, _||_, or-true, false≢true}
 use mathlib.Core.List.{List, [], _∷_, map}
-use mathlib.Core.Option.{Option, none, some}
+use mathlib.Core.Option.{none}
 use Prim.Native.Nat.{ℕ, zero, suc}
 use Prim.Native.Char.{code}
 use Prim.Native.String.{String}
 use lib.Dec.{eqb}
-use lib.ListN.{drop, getD}
+use lib.ListN.{drop}
 use borrow.Author.Tests.{eqb-true}
-use Rattle.lexer.specs.Text.{if_then_else_, bytes, among, within, lower, same, openText}
+use Rattle.lexer.specs.Text.{bytes, among, within, lower, same, openText}
 use Rattle.lexer.proofs.Branches.{and-split}
 use Rattle.names.specs.Names.{registers, segments, sizes, directives, placeFrom, named, spelling, operationFrom, operationNamed}
 use Rattle.names.specs.Table.{spellings, row, rowsOf, operations}
@@ -25,13 +25,9 @@ unfolding among lower within
 lower-dotted [] h = h
 lower-dotted (c ∷ w) h = go (eqb (code ".") c) refl h (λ i. lower-dotted w i)
   where
-    or-true : (b : Bool) {d : Bool} → d ≡ true → b || d ≡ true
-    or-true true e = refl
-    or-true false e = e
-
     go : (b : Bool) → eqb (code ".") c ≡ b → b || dotted w ≡ true → (dotted w ≡ true → dotted (map lower w) ≡ true) → eqb (code ".") (lower c) || dotted (map lower w) ≡ true
     go true e i again = rw (sym (eqb-true (code ".") c e))
-    go false e i again = or-true (eqb (code ".") (lower c)) (again i)
+    go false e i again = rw (again i, or-true)
 
 -- What a dotted word is the same as is dotted.
 none-same : (w s : List ℕ) → dotted w ≡ true → not (dotted s) ≡ true → same w s ≡ false

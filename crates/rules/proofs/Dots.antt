@@ -1,7 +1,7 @@
 -- Dots in names. Where none follows a name directly, both rules give the same tokens; where one does, the old rule gives a dot, which no reading
 -- accepts.
-use mathlib.Core.Path.{_≡_, refl, sym, ap, _∙_}
-use mathlib.Core.Bool.{Bool, true, false, _||_, true≢false, false≢true}
+use mathlib.Core.Path.{_≡_, refl, ap, _∙_}
+use mathlib.Core.Bool.{Bool, true, false, true≢false, false≢true}
 use mathlib.Core.List.{List, [], _∷_}
 use mathlib.Core.Logic.{⊎-elim}
 use mathlib.Core.Option.{Option, none, some}
@@ -9,26 +9,23 @@ use Prim.Native.Nat.{ℕ, zero, suc, pred}
 use Prim.Native.Char.{code}
 use lib.ListN.{length, drop, getD}
 use borrow.Author.Tests.{eqb-true}
-use Rattle.lexer.specs.Text.{if_then_else_, maybe, is, isLetter, run, openText}
+use Rattle.lexer.specs.Text.{if_then_else_, maybe, is, isLetter, run}
 use Rattle.lexer.specs.Tokens.{tokenAt, sizeOf, openTokens}
 use Rattle.lexer.specs.Dots.{isPlainPart, plainToken, dotFollows}
 use Rattle.lexer.specs.declared.TokenRead.{TokenRead}
 use Rattle.lexer.proofs.Branches.{either, and-split}
 use Rattle.lexer.proofs.Dots.{dotted-names}
 use Rattle.lexer.proofs.Runs.{one-of}
+use Rattle.lexer.proofs.Scans.{off}
 use Rattle.rules.specs.Lexemes.{kindOf, Lexeme, isGap, lexeme, put, tokensBy, openLexemes}
 use Rattle.rules.specs.Records.{Record}
 use Rattle.rules.specs.Reader.{Refusal, at, nowhere, Answer, isMark, isLineEnd}
-use Rattle.rules.specs.Statements.{Profile, Row, State, push, rows, Outcome, outcome, readRows, readFrom, reading}
+use Rattle.rules.specs.Statements.{Profile, Row, State, push, rows, outcome, readRows, readFrom, reading}
 use Rattle.rules.specs.Calls.{Result, gives, refuses, unless, tooLong, foreign, ascii, lent, lentAt, tokenRead, tokenCall, listed, fullRead, oneFound, oneRead, statementCall}
 use Rattle.rules.specs.Dots.{dotBehindName, tokenBy, statementBy, fullBy, ByRule, SameWithoutDots, OnlyRefused, loneDot, LoneDotsRefused}
 use Rattle.rules.proofs.TokenKinds.{mark-inside}
 use Rattle.rules.proofs.Cut.{tokens-finished, tokens-count, begins-with}
-use Rattle.rules.proofs.DotsStay.{Dotted, here, further, Beneath, first, later, Denied, begins-denied}
-
-or-false : (a b : Bool) → a || b ≡ false → (a ≡ false) × (b ≡ false)
-or-false true b h = absurd (true≢false h)
-or-false false b h = (refl, h)
+use Rattle.rules.proofs.DotsStay.{here, further, Beneath, first, later, Denied, begins-denied}
 
 -- The same tokens.
 tokens-same : (p k : ℕ) (s : List ℕ) → dotBehindName k s ≡ false → tokensBy tokenAt p k s ≡ tokensBy plainToken p k s
@@ -36,7 +33,7 @@ unfolding tokensBy dotBehindName
 tokens-same p k [] h = refl
 tokens-same p (suc k) (c ∷ cs) h = tokens-same (suc p) k cs h
 tokens-same p zero (c ∷ cs) h =
-    let (a, b) = or-false (dotFollows (c ∷ cs)) _ h in
+    let (a, b) = off (dotFollows (c ∷ cs)) _ h in
     let t : TokenRead = plainToken (c ∷ cs) in
     rw (dotted-names .others (c ∷ cs) a) (ap (put p t (c ∷ cs)) (tokens-same (suc p) (pred (sizeOf t)) cs b))
 

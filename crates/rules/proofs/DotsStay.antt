@@ -14,7 +14,7 @@ use Rattle.lexer.specs.Text.{if_then_else_, is}
 use Rattle.rules.specs.Lexemes.{Kind, word, number, quoted, mark, newline, blank, comment, invalid, end, bad, Lexeme, textOf, nameIn, operationIn}
 use Rattle.names.specs.Names.{registers, segments, sizes, directives}
 use Rattle.rules.specs.Records.{Record, ST, LT, field}
-use Rattle.rules.specs.Reader.{Refusal, at, Answer, done, refused, Reader, Line, after, thence, _>>=_, _>>_, return, write, arrive, step, next, ahead, kind, passed, isMark, isLineEnd, expect}
+use Rattle.rules.specs.Reader.{Refusal, at, Answer, done, refused, Reader, Line, after, thence, _>>=_, _>>_, write, arrive, step, next, ahead, kind, passed, isMark, isLineEnd, expect}
 use Rattle.rules.specs.Expressions.{operatorOf, leftLevel, rightLevel, prefixLevel, character, atomOf, atom, primary, infixes, expr, expression}
 use Rattle.rules.specs.Operands.{immediateOrFar, alone, isIndex, isBase, paired, plusIndex, second, registersAhead, displacement, close, override, isWord, isNumber, memory, operandSized, operand, operands}
 use Rattle.rules.specs.Statements.{Profile, Row, State, over, inLine, firstOf, enter, stepRow, nextRow, lineEnd, skip, skipLines, passing, label, rep, repne, instruction, constant, literalOf, literals, someData, dataOf, line, content, times, begun, statement}
