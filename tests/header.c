@@ -131,8 +131,8 @@ static void full_reads(void) {
     reads("jmp 1:2", "ST 0; VC 4 5 1; VC 6 7 2; OF 4 7; LI 0 7 59 1 4 7");
     says(bytes("mov [ ax],bx"), 12, registers, "mov [ ax],bx");
     refuses("mov ax,[si+di]", 33, 8, 13);
-    refuses("dw 0abh", 30, 3, 6);
-    refuses("dw 10bh", 15, 6, 7);
+    reads("dw 0abh", "ST 0; LD 0 7 2 171 0");
+    reads("dw 10bh", "ST 0; LD 0 7 2 11 1");
     refuses("equ *5", 22, 0, 0);
     /* the other samples, and the tests of the source */
     reads("", "");
@@ -188,7 +188,24 @@ static void full_reads(void) {
     refuses("times a.b", 34, 0, 5);
     reads("times 0b.1", "ST 0; VC 6 7 0; LL 7 10; LT 0 0");
     refuses("times 10b.x", 20, 9, 10);
-    reads("times 1bh.x", "ST 0; VC 6 8 1; LL 8 11; LT 0 0");
+    refuses("times 1bh.x", 20, 9, 10);
+    /* the letter behind the digits, and numbers that it leaves as they were */
+    reads("equ 0adh", "ST 0; VC 4 8 173; LC 0 8");
+    reads("equ 1DH", "ST 0; VC 4 7 29; LC 0 7");
+    reads("equ 00bh", "ST 0; VC 4 8 11; LC 0 8");
+    refuses("equ 1bo", 21, 4, 5);
+    refuses("equ 9bO", 21, 4, 5);
+    reads("equ 7ffffffbh", "ST 0; VC 4 13 2147483643; LC 0 13");
+    refuses("equ 0ffffffffbh", 21, 4, 5);
+    reads("times 1bhlt", "ST 0; VC 6 9 27; LL 9 11; LT 0 0");
+    refuses("times 10bh", 34, 0, 5);
+    refuses("times 1bor ax,bx", 21, 6, 7);
+    refuses("dw 12b", 30, 3, 6);
+    refuses("dw 0ab", 30, 3, 6);
+    refuses("dw 12b h", 30, 3, 6);
+    refuses("dw 0bh", 15, 4, 6);
+    refuses("db 0dh,0ah", 15, 4, 6);
+    reads("times 0dh", "ST 0; VC 6 7 0; LL 7 9; LT 0 0");
     registers = refusal(25, 4, 9);
     registers.first = 14;
     registers.second = 11;
@@ -241,7 +258,8 @@ static void statement_reads(void) {
     statement("a.b c", 0, refusal(0, 0, 0), 1, "ST 0; LL 0 3", 4);
     statement(";a.b", 0, refusal(0, 0, 0), 0, "", 0);
     statement(";a.b", 1, refusal(0, 0, 0), 1, "ST 1; LL 1 4", 4);
-    statement("a dw 0abh", 2, refusal(30, 5, 8), 0, "", 0);
+    statement("a dw 12b", 2, refusal(30, 5, 8), 0, "", 0);
+    statement("a: dw 0abh\nb", 3, refusal(0, 0, 0), 1, "ST 3; LD 3 10 2 171 0", 11);
     statement("a db 256", 2, refusal(60, 5, 8), 0, "", 0);
     statement("a equ *5", 2, refusal(22, 0, 0), 0, "", 0);
     statement("a\x80", 0, refusal(2, 1, 2), 0, "", 0);
@@ -286,7 +304,13 @@ static void tokens(void) {
     token(source, 19, '$', 0, 20);
     token(source, 20, ' ', 0, 21);
     token(source, 21, LAQHONCU_KIND_END_OF_FILE, 0, 21);
-    token("dw 0abh", 3, LAQHONCU_BINARY_LARGER_DIGIT, 0, 6);
+    token("dw 12b", 3, LAQHONCU_BINARY_LARGER_DIGIT, 0, 6);
+    token("10bh", 0, LAQHONCU_KIND_NUMBER, 267, 4);
+    token("10bh", 1, LAQHONCU_KIND_NUMBER, 0, 2);
+    token("0abH", 0, LAQHONCU_KIND_NUMBER, 171, 4);
+    token("0adh", 0, LAQHONCU_KIND_NUMBER, 173, 4);
+    token("1bo", 0, LAQHONCU_KIND_INVALID, '1', 1);
+    token("0dh", 0, LAQHONCU_KIND_NUMBER, 0, 1);
     token("equ 0x80000000", 4, LAQHONCU_PREFIXED_TOO_LARGE, 0, 14);
     token("w12.a..:", 0, LAQHONCU_KIND_IDENTIFIER, 0, 7);
     token("w12.a..:", 3, '.', 0, 4);
@@ -302,7 +326,7 @@ static void tokens(void) {
     check(laqhoncu_token_read(feeds, LONGEST + 1, 0).refusal.number == 1, "the token read", "65,537 line feeds");
     check(laqhoncu_token_read(feeds, LONGEST + 1, LONGEST + 2).refusal.number == 42, "42 comes before 1", "65,537 line feeds");
     check(laqhoncu_count(bytes(source), strlen(source)) == 13, "how many tokens", source);
-    check(laqhoncu_count(bytes("dw 0abh\x80"), 8) == 5, "how many tokens", "dw 0abh and a byte above 127");
+    check(laqhoncu_count(bytes("dw 12b\x80"), 7) == 4, "how many tokens", "dw 12b and a byte above 127");
     check(laqhoncu_count(feeds, LONGEST) == LONGEST, "how many tokens", "65,536 line feeds");
 }
 
@@ -447,7 +471,7 @@ static void patches(void) {
     patch_refused(edit("a\nb\n", both, 0, "c\n"), ROOM, ROOM, refusal(43, 0, 0));
     patch_refused(edit("a\nb\n", "LL 0 1", 0, "c"), ROOM, ROOM, refusal(41, 0, 0));
     patch_refused(edit("a\nb\n", both, 2, "equ *5"), ROOM, ROOM, refusal(22, 0, 0));
-    patch_refused(edit("a\nb\n", both, 2, "dw 0abh"), ROOM, ROOM, refusal(30, 5, 8));
+    patch_refused(edit("a\nb\n", both, 2, "dw 12b"), ROOM, ROOM, refusal(30, 5, 8));
 }
 
 /* NULL for each pointer, where the length behind it is 0. */

@@ -167,7 +167,7 @@ pub fn full_read(source: &[u8], out: &mut [u8]) -> Result<usize, Refusal> {
 ///
 /// ```
 /// assert_eq!(laqhoncu::listing(b"; nothing")?, []);
-/// assert_eq!(laqhoncu::listing(b"dw 0abh").unwrap_err().number, laqhoncu::refusals::BINARY_LARGER_DIGIT);
+/// assert_eq!(laqhoncu::listing(b"dw 12b").unwrap_err().number, laqhoncu::refusals::BINARY_LARGER_DIGIT);
 /// # Ok::<(), laqhoncu::Refusal>(())
 /// ```
 pub fn listing(source: &[u8]) -> Result<Vec<u8>, Refusal> {

@@ -6,8 +6,8 @@ use laqhoncu::{Refusal, Span, Token, TokenKind, token};
 const DIGITS: &[u8; 22] = b"0123456789abcdefABCDEF";
 
 /// What stands before the digits that are tried and behind them, and the base. Without a prefix the first digit is no letter, and a last b or d
-/// would be a suffix.
-const FORMS: [(&str, &str, usize); 13] = [
+/// would be a suffix, but before o or h.
+const FORMS: [(&str, &str, usize); 17] = [
     ("0b", "", 2),
     ("0o", "", 8),
     ("0d", "", 10),
@@ -20,6 +20,10 @@ const FORMS: [(&str, &str, usize); 13] = [
     ("1", "1D", 10),
     ("1", "1h", 16),
     ("1", "1H", 16),
+    ("1", "o", 8),
+    ("1", "O", 8),
+    ("1", "h", 16),
+    ("1", "H", 16),
     ("1", "1", 10),
 ];
 
@@ -44,8 +48,8 @@ fn each_digit_at_each_place() {
             for (b, second) in &digits {
                 for (c, third) in &digits {
                     let source = [before.as_bytes(), &[*a, *b, *c], behind.as_bytes()].concat();
-                    let tried = (first * base + second) * base + third;
-                    let value = if behind.is_empty() { tried } else { (base.pow(3) + tried) * base + 1 };
+                    let tried = (first * base + second) * base + third + if before == "1" { base.pow(3) } else { 0 };
+                    let value = if behind.starts_with('1') { tried * base + 1 } else { tried };
                     is(&source, number(value), source.len());
                 }
             }
@@ -63,6 +67,7 @@ fn each_digit_that_the_base_does_not_have() {
         }
         if worth >= 8 {
             is(&[b'1', c, b'1', b'o'], TokenKind::Invalid(b'1'), 1);
+            is(&[b'1', c, b'o'], TokenKind::Invalid(b'1'), 1);
         }
         if worth >= 10 {
             is(&[b'1', c, b'1', b'd'], TokenKind::Invalid(b'1'), 1);
@@ -79,6 +84,21 @@ fn every_byte_behind_a_digit() {
             match worth(c).filter(|worth| worth < base) {
                 Some(worth) => is(&source, number(base + worth), 4),
                 None => is(&source, number(1), 3),
+            }
+        }
+    }
+}
+
+#[test]
+fn every_byte_behind_a_run_that_ends_in_b_or_d() {
+    for (run, hexadecimal) in [("1b", 0x1b), ("1B", 0x1b), ("1d", 0x1d), ("1D", 0x1d)] {
+        for c in 0..=255 {
+            let source = [run.as_bytes(), &[c]].concat();
+            match c {
+                b'h' | b'H' => is(&source, number(hexadecimal), 3),
+                b'o' | b'O' => is(&source, TokenKind::Invalid(b'1'), 1),
+                _ if worth(c).is_some() => {} // belongs to the run
+                _ => is(&source, number(1), 2),
             }
         }
     }

@@ -16,6 +16,10 @@ pub given : {A : Type 0} (P : A → Type 0) (b : Bool) (x y : A) → (b ≡ true
 given P true x y p q = p refl
 given P false x y p q = q refl
 
+pub alike : {A : Type 0} (b : Bool) (x x′ y y′ : A) → (b ≡ true → x ≡ x′) → (b ≡ false → y ≡ y′) → _≡_ {A = A} (if b then x else y) (if b then x′ else y′)
+alike true x x′ y y′ p q = p refl
+alike false x x′ y y′ p q = q refl
+
 pub and-split : (b c : Bool) → b && c ≡ true → (b ≡ true) × (c ≡ true)
 and-split true c h = (refl, h)
 and-split false c h = absurd (false≢true h)

@@ -1,5 +1,5 @@
 -- Dots in names. The run of a name with dots goes on where the run without them meets one, and else ends with it.
-use mathlib.Core.Path.{_≡_, refl, sym, _∙_}
+use mathlib.Core.Path.{_≡_, refl, sym, ap, _∙_}
 use mathlib.Core.Bool.{Bool, true, false, _&&_, _||_, or-true, or-false, false≢true}
 use mathlib.Core.List.{List, [], _∷_, map}
 use mathlib.Core.Logic.{⊎-elim}
@@ -10,14 +10,15 @@ use lib.Dec.{leb}
 use lib.ListN.{getD}
 use borrow.Author.Tests.{eqb-true, leb-true}
 use Rattle.lexer.specs.Text.{if_then_else_, is, within, isLetter, isWordPart, run}
-use Rattle.lexer.specs.Tokens.{mark, tokenAt, sizeOf, openTokens}
+use Rattle.lexer.specs.Tokens.{mark, suffixed, tokenWith, tokenAt, sizeOf, openTokens}
 use Rattle.lexer.specs.Dots.{isPlainPart, plainToken, dotFollows, underscored, DottedNames}
 use Rattle.lexer.specs.declared.PunctuationKind.the-variants.{Dot}
 use Rattle.lexer.specs.declared.Token.the-variants.{Identifier}
+use Rattle.lexer.specs.declared.TokenRead.{TokenRead}
 use Rattle.lexer.specs.declared.TokenRead.the-variants.{Read}
 use Rattle.lexer.proofs.Branches.{and-split}
 use Rattle.lexer.proofs.Runs.{one-of}
-use Rattle.lexer.proofs.Scans.{token-word}
+use Rattle.lexer.proofs.Scans.{same-with, word-with}
 
 part-is : (c : ℕ) → isWordPart c ≡ isPlainPart c || is "." c
 unfolding isWordPart isPlainPart
@@ -46,7 +47,7 @@ run-longer (c ∷ cs) h = go (isPlainPart c) refl h (λ i. run-longer cs i)
     go false e h again = rw (part-is c, e, h) (omega arith)
 
 -- A letter is a byte, and so begins a name.
-within-byte : (a z : Char) (c : ℕ) → code z < 256 → within a z c ≡ true → c < 256
+pub within-byte : (a z : Char) (c : ℕ) → code z < 256 → within a z c ≡ true → c < 256
 unfolding within
 within-byte a z c i h = omega (arith, leb-true c (code z) (and-split (leb (code a) c) (leb c (code z)) h .1))
 
@@ -55,25 +56,26 @@ unfolding isLetter is
 letter-byte c h = ⊎-elim (λ g. ⊎-elim (within-byte "a" "z" c (omega arith)) (within-byte "A" "Z" c (omega arith)) (one-of (within "a" "z" c) (within "A" "Z" c) g))
     (λ u. omega (arith, eqb-true c (code "_") u)) (one-of (within "a" "z" c || within "A" "Z" c) (is "_" c) h)
 
-name-at : (c : ℕ) (cs : List ℕ) → isLetter c ≡ true → tokenAt (c ∷ cs) ≡ Read (Identifier (suc (run isWordPart cs)))
-name-at c cs e = token-word c cs (letter-byte c e) e
+pub name-with : (part : ℕ → Bool) (unprefixed : ℕ → List ℕ → TokenRead) (c : ℕ) (cs : List ℕ) → isLetter c ≡ true
+    → tokenWith part unprefixed (c ∷ cs) ≡ Read (Identifier (suc (run part cs)))
+name-with part unprefixed c cs e = word-with c cs (letter-byte c e) part unprefixed e
 
 longer : (s : List ℕ) → dotFollows s ≡ true → sizeOf (plainToken s) < sizeOf (tokenAt s)
-unfolding dotFollows plainToken
+unfolding dotFollows plainToken tokenAt
 longer [] h = absurd (false≢true h)
 longer (c ∷ cs) h =
     let (l, d) = and-split (isLetter c) _ h in
-    rw (l, name-at c cs l) (omega (arith, run-longer cs d))
+    rw (name-with isPlainPart suffixed c cs l, name-with isWordPart suffixed c cs l) (omega (arith, run-longer cs d))
+
+-- the run of a name that no dot follows
+pub name-same : (c : ℕ) (cs : List ℕ) → dotFollows (c ∷ cs) ≡ false → isLetter c ≡ true → run isWordPart cs ≡ run isPlainPart cs
+unfolding dotFollows
+name-same c cs h e = run-same cs (sym (rw e) ∙ h)
 
 others : (s : List ℕ) → dotFollows s ≡ false → tokenAt s ≡ plainToken s
-unfolding dotFollows plainToken
+unfolding tokenAt plainToken tokenWith
 others [] h = refl
-others (c ∷ cs) h = go (isLetter c) refl h
-  where
-    go : (b : Bool) → isLetter c ≡ b → b && is "." (getD cs (run isPlainPart cs) 0) ≡ false
-        → tokenAt (c ∷ cs) ≡ (if b then (Read (Identifier (suc (run isPlainPart cs)))) else (tokenAt (c ∷ cs)))
-    go true e d = rw (name-at c cs e, run-same cs d)
-    go false e d = refl
+others (c ∷ cs) h = same-with c cs isWordPart isPlainPart suffixed suffixed (λ _. refl) (name-same c cs h)
 
 -- A name takes a dot as it takes `_`.
 part-as : (c : ℕ) → isPlainPart (underscored c) ≡ isWordPart c
@@ -90,8 +92,9 @@ run-as [] = refl
 run-as (c ∷ cs) = rw (part-as c, run-as cs)
 
 exact : (c : ℕ) (cs : List ℕ) → isLetter c ≡ true → tokenAt (c ∷ cs) ≡ plainToken (c ∷ map underscored cs)
-unfolding plainToken
-exact c cs h = rw (name-at c cs h, h, run-as cs)
+unfolding tokenAt plainToken
+exact c cs h =
+    name-with isWordPart suffixed c cs h ∙ ap (λ (n : ℕ). Read (Identifier (suc n))) (sym (run-as cs)) ∙ sym (name-with isPlainPart suffixed c (map underscored cs) h)
 
 starts : (s : List ℕ) → tokenAt (code "." ∷ s) ≡ mark Dot
 unfolding openTokens

@@ -11,7 +11,7 @@ use lib.ListN.{take, drop, getD}
 use lib.Seq.{getD-drop}
 use borrow.Author.Tests.{eq-eqb, ne-eqb, leb-true}
 use Rattle.lexer.specs.Text.{if_then_else_, is, within, anyOf, isBlank, isDigit, isHexDigit, isLetter, run, all, last, digit, valueFrom}
-use Rattle.lexer.specs.Tokens.{largest, numeral, stray, prefixed, digits, inBase, suffixed, numberAt, inQuotes, stringAfter, mark, markAt, tokenAt}
+use Rattle.lexer.specs.Tokens.{largest, numeral, stray, prefixed, digits, suffixBehind, suffixLast, inBase, suffixed, numberWith, numberAt, inQuotes, stringAfter, mark, markAt, tokenWith, tokenAt}
 use Rattle.lexer.specs.Scanned.{scannedOf, tokenOf, nextOf}
 use Rattle.lexer.specs.declared.LiteralKind.the-variants.{Number, Text}
 use Rattle.lexer.specs.declared.PunctuationKind.{PunctuationKind}
@@ -68,12 +68,12 @@ module _ (c : ℕ) (h : c < 256) where
   kept-digits base ds n = bounded (all (λ d. ltb (digit d) base) ds) n (valueFrom 0 base ds) kept-stray
 
   kept-based : (n : ℕ) (ds cut : List ℕ) (after : ℕ) → Kept (inBase c n ds cut after)
-  unfolding inBase
+  unfolding inBase suffixBehind suffixLast
   kept-based n ds cut after =
-      choose (anyOf "bB" (last ds)) (choose (all (λ d. leb d 49) cut) (kept-digits 2 cut n) fault)
-      (choose (anyOf "dD" (last ds)) (kept-digits 10 cut n)
-      (choose (anyOf "oO" after) (kept-digits 8 ds (suc n))
+      choose (anyOf "oO" after) (kept-digits 8 ds (suc n))
       (choose (anyOf "hH" after) (kept-digits 16 ds (suc n))
+      (choose (anyOf "bB" (last ds)) (choose (all (λ d. leb d 49) cut) (kept-digits 2 cut n) fault)
+      (choose (anyOf "dD" (last ds)) (kept-digits 10 cut n)
       (kept-digits 10 ds n))))
 
   kept-suffixed : (cs : List ℕ) → Kept (suffixed c cs)
@@ -81,7 +81,7 @@ module _ (c : ℕ) (h : c < 256) where
   kept-suffixed cs = kept-based _ _ _ _
 
   kept-number : (cs : List ℕ) → Kept (numberAt c cs)
-  unfolding numberAt
+  unfolding numberWith
   kept-number [] = kept-suffixed []
   kept-number (d ∷ ds) =
       choose (not (is "0" c)) (kept-suffixed (d ∷ ds))
@@ -113,7 +113,7 @@ unfolding stringAfter
 kept-string cs = choose (is "'" (getD cs (run inQuotes cs) 0)) text text
 
 kept : (s : List ℕ) → getD s 0 0 < 256 → Kept (tokenAt s)
-unfolding tokenAt
+unfolding tokenWith tokenAt
 kept [] h = end
 kept (c ∷ cs) h =
     choose (is ";" c) remark

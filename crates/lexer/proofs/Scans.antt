@@ -10,7 +10,7 @@ use lib.ListN.{length, getD, take, drop, length-drop, drop-of-length-le}
 use lib.Seq.{drop-cons, drop-drop, getD-drop}
 use borrow.Author.Tests.{eq-eqb, ne-eqb, eqb-true, lt-ltb, not-true}
 use Rattle.lexer.specs.Text.{if_then_else_, is, anyOf, isBlank, isDigit, isHexDigit, isLetter, isWordPart, within, run, all, last, digit, valueFrom, openText}
-use Rattle.lexer.specs.Tokens.{largest, numeral, stray, prefixed, digits, inBase, suffixed, numberAt, inQuotes, stringAfter, inComment, markAt, tokenAt, openTokens}
+use Rattle.lexer.specs.Tokens.{largest, numeral, stray, prefixed, digits, suffixBehind, suffixLast, inBase, suffixed, numberWith, numberAt, inQuotes, stringAfter, inComment, markAt, tokenWith, tokenAt, openTokens}
 use Rattle.lexer.specs.Runs.{valuedFrom, upToOne, areHexDigits, afterZero}
 use Rattle.lexer.specs.Scanned.{scannedOf, isMark}
 use Rattle.lexer.specs.declared.Scanned.{Scanned}
@@ -19,6 +19,7 @@ use Rattle.lexer.specs.declared.Token.the-variants.{Whitespace, Identifi
 use Rattle.lexer.specs.declared.TokenRead.{TokenRead}
 use Rattle.lexer.specs.declared.TokenRead.the-variants.{Read, Refused}
 use Rattle.lexer.specs.declared.text.Value.the-variants.{Fits, Beyond}
+use Rattle.lexer.proofs.Branches.{branch, alike}
 use Rattle.lexer.proofs.Runs.{below, below-all, run-le, run-all, run-ends}
 
 abbrev flat : ℕ → ℕ → ℕ → Scanned
@@ -211,57 +212,76 @@ module _ (s : List ℕ) (at end : ℕ) (h : at < length s) (d : isDigit (getD s 
       (last-take (end - 1 - at) (drop at s) (omega (arith, suffix-inside, suffix-within, length-drop at s))
       ∙ getD-drop at s (end - 1 - at) 0 ∙ ap (λ k. getD s k 0) place)
 
-  module _ (b : (eqb (getD s (end - 1) 0) 98 || eqb (getD s (end - 1) 0) 66) ≡ true) where
-    pub suffix-larger : (m : ℕ) → m ≡ at + run upToOne (drop at s) → m < end - 1 → suffixed first (drop (suc at) s) ≡ Refused (end - at) LargerDigit
-    unfolding inBase
-    suffix-larger m q l =
-        whole
-        ∙ rw (suffix-is, is-b, b, run-ends upToOne (end - 1 - at) (drop at s) (omega arith) (omega (arith, suffix-within, length-drop at s)))
+  longer : suc (end - at) ≡ end + 1 - at
+  longer = omega (arith, suffix-inside)
 
-    pub suffix-binary : (m : ℕ) → m ≡ at + run upToOne (drop at s) → end - 1 ≤ m → suffixed first (drop (suc at) s) ≡ digits first 2 cut (end - at)
-    unfolding inBase
-    suffix-binary m q l =
-        whole ∙ rw (suffix-is, is-b, b, run-all upToOne upToOne (λ c t. t) (end - 1 - at) (drop at s) (omega (arith, suffix-inside)))
+  -- the letter behind the run
+  abbrev isO : Bool
+  isO = eqb (getD s end 0) 111 || eqb (getD s end 0) 79
 
-  module _ (b : (eqb (getD s (end - 1) 0) 98 || eqb (getD s (end - 1) 0) 66) ≡ false) where
-    pub suffix-decimal : (eqb (getD s (end - 1) 0) 100 || eqb (getD s (end - 1) 0) 68) ≡ true → suffixed first (drop (suc at) s) ≡ digits first 10 cut (end - at)
-    unfolding inBase
-    suffix-decimal k = whole ∙ rw (suffix-is, is-b, b, is-d, k)
+  abbrev isH : Bool
+  isH = eqb (getD s end 0) 104 || eqb (getD s end 0) 72
 
-    module _ (k : (eqb (getD s (end - 1) 0) 100 || eqb (getD s (end - 1) 0) 68) ≡ false) where
-      longer : suc (end - at) ≡ end + 1 - at
-      longer = omega (arith, suffix-inside)
+  -- and its last character
+  abbrev isB : Bool
+  isB = eqb (getD s (end - 1) 0) 98 || eqb (getD s (end - 1) 0) 66
 
-      pub suffix-octal : (eqb (getD s end 0) 111 || eqb (getD s end 0) 79) ≡ true → suffixed first (drop (suc at) s) ≡ digits first 8 ds (end + 1 - at)
-      unfolding inBase
-      suffix-octal o = whole ∙ rw (suffix-is, is-b, b, is-d, k, is-o, o, longer)
+  abbrev isD : Bool
+  isD = eqb (getD s (end - 1) 0) 100 || eqb (getD s (end - 1) 0) 68
 
-      module _ (o : (eqb (getD s end 0) 111 || eqb (getD s end 0) 79) ≡ false) where
-        pub suffix-hexadecimal : (eqb (getD s end 0) 104 || eqb (getD s end 0) 72) ≡ true → suffixed first (drop (suc at) s) ≡ digits first 16 ds (end + 1 - at)
-        unfolding inBase
-        suffix-hexadecimal x = whole ∙ rw (suffix-is, is-b, b, is-d, k, is-o, o, is-h, x, longer)
+  pub suffix-octal : isO ≡ true → suffixed first (drop (suc at) s) ≡ digits first 8 ds (end + 1 - at)
+  unfolding inBase suffixBehind
+  suffix-octal o = whole ∙ rw (is-o, o, longer)
 
-        pub suffix-none : (eqb (getD s end 0) 104 || eqb (getD s end 0) 72) ≡ false → suffixed first (drop (suc at) s) ≡ digits first 10 ds (end - at)
-        unfolding inBase
-        suffix-none x = whole ∙ rw (suffix-is, is-b, b, is-d, k, is-o, o, is-h, x)
+  module _ (o : isO ≡ false) where
+    pub suffix-hexadecimal : isH ≡ true → suffixed first (drop (suc at) s) ≡ digits first 16 ds (end + 1 - at)
+    unfolding inBase suffixBehind
+    suffix-hexadecimal x = whole ∙ rw (is-o, o, is-h, x, longer)
+
+    module _ (x : isH ≡ false) where
+      plain : suffixed first (drop (suc at) s) ≡ suffixLast first (end - at) ds cut (digits first 10 ds (end - at))
+      unfolding inBase suffixBehind
+      plain = whole ∙ rw (is-o, o, is-h, x)
+
+      module _ (b : isB ≡ true) where
+        pub suffix-larger : (m : ℕ) → m ≡ at + run upToOne (drop at s) → m < end - 1 → suffixed first (drop (suc at) s) ≡ Refused (end - at) LargerDigit
+        unfolding suffixLast
+        suffix-larger m q l =
+            plain
+            ∙ rw (suffix-is, is-b, b, run-ends upToOne (end - 1 - at) (drop at s) (omega arith) (omega (arith, suffix-within, length-drop at s)))
+
+        pub suffix-binary : (m : ℕ) → m ≡ at + run upToOne (drop at s) → end - 1 ≤ m → suffixed first (drop (suc at) s) ≡ digits first 2 cut (end - at)
+        unfolding suffixLast
+        suffix-binary m q l =
+            plain ∙ rw (suffix-is, is-b, b, run-all upToOne upToOne (λ c t. t) (end - 1 - at) (drop at s) (omega (arith, suffix-inside)))
+
+      module _ (b : isB ≡ false) where
+        pub suffix-decimal : isD ≡ true → suffixed first (drop (suc at) s) ≡ digits first 10 cut (end - at)
+        unfolding suffixLast
+        suffix-decimal k = plain ∙ rw (suffix-is, is-b, b, is-d, k)
+
+        pub suffix-none : isD ≡ false → suffixed first (drop (suc at) s) ≡ digits first 10 ds (end - at)
+        unfolding suffixLast
+        suffix-none k = plain ∙ rw (suffix-is, is-b, b, is-d, k)
 
 pub larger-scanned : (at end : ℕ) → at < end → flat 30 0 end ≡ scannedOf at (Refused (end - at) LargerDigit)
 larger-scanned at end h = ap (flat 30 0) (omega arith)
 
 -- The number that begins with c: what stands behind a leading zero.
-number-other : (c : ℕ) (cs : List ℕ) → eqb c 48 ≡ false → numberAt c cs ≡ suffixed c cs
-unfolding numberAt is
-number-other c [] h = refl
-number-other c (d ∷ ds) h = rw h
+pub number-other : (unprefixed : ℕ → List ℕ → TokenRead) (c : ℕ) (cs : List ℕ) → eqb c 48 ≡ false → numberWith unprefixed c cs ≡ unprefixed c cs
+unfolding numberWith is
+number-other unprefixed c [] h = refl
+number-other unprefixed c (d ∷ ds) h = rw h
 
 zero-then : (c : ℕ) (cs : List ℕ) (x : ℕ) → c ≡ 48 → getD cs 0 0 ≡ suc x → numberAt c cs ≡ numberAt 48 (suc x ∷ drop 1 cs)
 zero-then c [] x z q = absurd (omega arith)
 zero-then c (d ∷ ds) x z q = cc
 
-zero-plain : (c : ℕ) (cs : List ℕ) → c ≡ 48 → (getD cs 0 0 ≡ 98 → ⊥) → (getD cs 0 0 ≡ 111 → ⊥) → (getD cs 0 0 ≡ 100 → ⊥) → (getD cs 0 0 ≡ 120 → ⊥) → numberAt c cs ≡ suffixed c cs
-unfolding numberAt is
-zero-plain c [] z b o k x = refl
-zero-plain c (d ∷ ds) z b o k x = rw (z, ne-eqb d 98 b, ne-eqb d 111 o, ne-eqb d 100 k, ne-eqb d 120 x)
+pub zero-plain : (unprefixed : ℕ → List ℕ → TokenRead) (c : ℕ) (cs : List ℕ) → c ≡ 48 → (getD cs 0 0 ≡ 98 → ⊥) → (getD cs 0 0 ≡ 111 → ⊥) → (getD cs 0 0 ≡ 100 → ⊥)
+    → (getD cs 0 0 ≡ 120 → ⊥) → numberWith unprefixed c cs ≡ unprefixed c cs
+unfolding numberWith is
+zero-plain unprefixed c [] z b o k x = refl
+zero-plain unprefixed c (d ∷ ds) z b o k x = rw (z, ne-eqb d 98 b, ne-eqb d 111 o, ne-eqb d 100 k, ne-eqb d 120 x)
 
 module _ (c : ℕ) (s : List ℕ) (at : ℕ) where
   abbrev second : ℕ
@@ -286,19 +306,19 @@ module _ (c : ℕ) (s : List ℕ) (at : ℕ) where
       go false z q = absurd (omega arith)
 
   pub number-binary : second ≡ 98 → numberAt c (drop (suc at) s) ≡ prefixed 2 (within "0" "1") (drop (at + 2) s)
-  unfolding numberAt is
+  unfolding numberWith is
   number-binary q = prefix-is 97 q
 
   pub number-octal : second ≡ 111 → numberAt c (drop (suc at) s) ≡ prefixed 8 (within "0" "7") (drop (at + 2) s)
-  unfolding numberAt is
+  unfolding numberWith is
   number-octal q = prefix-is 110 q
 
   pub number-decimal : second ≡ 100 → numberAt c (drop (suc at) s) ≡ prefixed 10 isDigit (drop (at + 2) s)
-  unfolding numberAt is
+  unfolding numberWith is
   number-decimal q = prefix-is 99 q
 
   pub number-hexadecimal : second ≡ 120 → numberAt c (drop (suc at) s) ≡ prefixed 16 isHexDigit (drop (at + 2) s)
-  unfolding numberAt is
+  unfolding numberWith is
   number-hexadecimal q = prefix-is 119 q
 
   pub number-plain : (second ≡ 98 → ⊥) → (second ≡ 111 → ⊥) → (second ≡ 100 → ⊥) → (second ≡ 120 → ⊥) → numberAt c (drop (suc at) s) ≡ suffixed c (drop (suc at) s)
@@ -310,8 +330,8 @@ module _ (c : ℕ) (s : List ℕ) (at : ℕ) where
           (d ≡ 98 → ⊥) → (d ≡ 111 → ⊥) → (d ≡ 100 → ⊥) → (d ≡ 120 → ⊥) → numberAt c (drop (suc at) s) ≡ suffixed c (drop (suc at) s)
       go true z b o k x =
           let e = sym head-is in
-          zero-plain c (drop (suc at) s) (eqb-true c 48 z) (λ q. b (e ∙ q)) (λ q. o (e ∙ q)) (λ q. k (e ∙ q)) (λ q. x (e ∙ q))
-      go false z b o k x = number-other c (drop (suc at) s) z
+          zero-plain suffixed c (drop (suc at) s) (eqb-true c 48 z) (λ q. b (e ∙ q)) (λ q. o (e ∙ q)) (λ q. k (e ∙ q)) (λ q. x (e ∙ q))
+      go false z b o k x = number-other suffixed c (drop (suc at) s) z
 
 same : (a b : Bool) → Bool·beq a b ≡ true → a ≡ b
 same true true e = refl
@@ -363,42 +383,60 @@ off false b h = (refl, h)
 
 -- The token that begins with the byte c.
 module _ (c : ℕ) (cs : List ℕ) where
+  -- Two rules give the same one where its number is the same by both, or its name.
+  pub same-with : (part part′ : ℕ → Bool) (unprefixed unprefixed′ : ℕ → List ℕ → TokenRead) → (isDigit c ≡ true → numberWith unprefixed c cs ≡ numberWith unprefixed′ c cs)
+      → (isLetter c ≡ true → run part cs ≡ run part′ cs) → tokenWith part unprefixed (c ∷ cs) ≡ tokenWith part′ unprefixed′ (c ∷ cs)
+  unfolding tokenWith
+  same-with part part′ unprefixed unprefixed′ number name =
+      branch (is ";" c) _ _ _ _ refl (branch (isBlank c) _ _ _ _ refl (alike (isDigit c) _ _ _ _ number
+      (λ _. alike (isLetter c) _ _ _ _ (λ e. ap (λ (n : ℕ). Read (Identifier (suc n))) (name e)) (λ _. refl))))
+
   pub token-comment : c ≡ 59 → tokenAt (c ∷ cs) ≡ Read (Comment (suc (run inComment cs)))
-  unfolding tokenAt is
+  unfolding tokenWith tokenAt is
   token-comment e = rw e
 
   pub token-string : c ≡ 39 → tokenAt (c ∷ cs) ≡ stringAfter cs
-  unfolding tokenAt openText
+  unfolding tokenWith tokenAt openText
   token-string e = rw e
 
   pub token-line : c ≡ 10 → tokenAt (c ∷ cs) ≡ Read (NewLine 1)
-  unfolding tokenAt openText
+  unfolding tokenWith tokenAt openText
   token-line e = rw e
 
   pub token-other : isBlank c ≡ false → isLetter c ≡ false → isDigit c ≡ false → (c ≡ 59 → ⊥) → (c ≡ 39 → ⊥) → (c ≡ 10 → ⊥) → tokenAt (c ∷ cs) ≡ markAt c
-  unfolding tokenAt is
+  unfolding tokenWith tokenAt is
   token-other b l d s q n = rw (ne-eqb c 59 s, b, d, l, ne-eqb c 39 q, ne-eqb c 10 n)
 
   module _ (h : c < 256) where
     pub token-blank : isBlank c ≡ true → tokenAt (c ∷ cs) ≡ Read (Whitespace (suc (run isBlank cs)))
-    unfolding tokenAt Apart
+    unfolding tokenWith tokenAt Apart
     token-blank e = rw (blank-apart c h e, e)
 
+    -- whatever a name goes on with, and however a number without a prefix is read
+    module _ (part : ℕ → Bool) (unprefixed : ℕ → List ℕ → TokenRead) where
+      pub number-with : isDigit c ≡ true → tokenWith part unprefixed (c ∷ cs) ≡ numberWith unprefixed c cs
+      unfolding tokenWith Apart
+      number-with e =
+          let o = off (is ";" c) (isBlank c) (digit-apart c h e) in
+          rw (o .0, o .1, e)
+
+      pub word-with : isLetter c ≡ true → tokenWith part unprefixed (c ∷ cs) ≡ Read (Identifier (suc (run part cs)))
+      unfolding tokenWith Apart beforeLetter
+      word-with e =
+          let o = off (is ";" c || isBlank c) (isDigit c) (letter-apart c h e) in
+          let p = off (is ";" c) (isBlank c) (o .0) in
+          rw (p .0, p .1, o .1, e)
+
     pub token-number : isDigit c ≡ true → tokenAt (c ∷ cs) ≡ numberAt c cs
-    unfolding tokenAt Apart
-    token-number e =
-        let o = off (is ";" c) (isBlank c) (digit-apart c h e) in
-        rw (o .0, o .1, e)
+    unfolding tokenAt
+    token-number e = number-with isWordPart suffixed e
 
     pub token-word : isLetter c ≡ true → tokenAt (c ∷ cs) ≡ Read (Identifier (suc (run isWordPart cs)))
-    unfolding tokenAt Apart beforeLetter
-    token-word e =
-        let o = off (is ";" c || isBlank c) (isDigit c) (letter-apart c h e) in
-        let p = off (is ";" c) (isBlank c) (o .0) in
-        rw (p .0, p .1, o .1, e)
+    unfolding tokenAt
+    token-word e = word-with isWordPart suffixed e
 
     pub token-mark : isMark c ≡ true → tokenAt (c ∷ cs) ≡ markAt c
-    unfolding tokenAt Apart beforeLetter beforeMark
+    unfolding tokenWith tokenAt Apart beforeLetter beforeMark
     token-mark e =
         let n = off (is ";" c || isBlank c || isDigit c || isLetter c || is "'" c) (is "\n" c) (mark-apart c h e) in
         let q = off (is ";" c || isBlank c || isDigit c || isLetter c) (is "'" c) (n .0) in
@@ -412,7 +450,7 @@ pub scanned-at : (s : List ℕ) (at : ℕ) {t : TokenRead} → at < length s →
 scanned-at s at h e = ap (scannedOf at) (sym e ∙ ap tokenAt (sym (drop-cons s at 0 h)))
 
 pub scanned-end : (s : List ℕ) (at : ℕ) → length s ≤ at → flat 0 0 at ≡ scannedOf at (tokenAt (drop at s))
-unfolding tokenAt
+unfolding tokenWith tokenAt
 scanned-end s at h = rw (drop-of-length-le s h) (ap (flat 0 0) (omega arith))
 
 -- a line feed's kind is itself, as a punctuation's is

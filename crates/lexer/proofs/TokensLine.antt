@@ -9,7 +9,7 @@ use native.Mathlib.Nat.{le-refl}
 use lib.ListN.{take, getD}
 use Rattle.lexer.specs.Text.{if_then_else_, within, anyOf, is, isBlank, isDigit, isHexDigit, isWordPart, run, openText}
 use Rattle.lexer.specs.declared.TokenRead.{TokenRead}
-use Rattle.lexer.specs.Tokens.{prefixed, inBase, suffixed, numberAt, inQuotes, stringAfter, inComment, tokenAt}
+use Rattle.lexer.specs.Tokens.{prefixed, suffixBehind, inBase, suffixed, numberWith, numberAt, inQuotes, stringAfter, inComment, tokenWith, tokenAt}
 use Rattle.lexer.proofs.Branches.{branch, either}
 
 -- Two rests of a source that are the same up to where their first line ends.
@@ -62,7 +62,7 @@ unfolding prefixed
 prefixed-alike {s} base p h a = rw (← run-alike p h a, take-alike p h (run p s) a (le-refl (run p s)))
 
 inBase-after : (c n : ℕ) (ds cut : List ℕ) (a b : ℕ) → anyOf "oO" a ≡ anyOf "oO" b → anyOf "hH" a ≡ anyOf "hH" b → inBase c n ds cut a ≡ inBase c n ds cut b
-unfolding inBase
+unfolding inBase suffixBehind
 inBase-after c n ds cut a b h i = rw (h, i)
 
 suffixed-alike : {s t : List ℕ} (c : ℕ) → Alike s t → suffixed c s ≡ suffixed c t
@@ -77,12 +77,12 @@ suffixed-alike {s} {t} c a =
 
 -- a first digit at a line's end has no prefix
 numberAt-ends : {s : List ℕ} (c : ℕ) → Ends s → numberAt c s ≡ suffixed c s
-unfolding numberAt openText
+unfolding numberWith openText
 numberAt-ends c nothing = refl
 numberAt-ends c (feed {s}) = either (λ (t : TokenRead). t ≡ suffixed c (10 ∷ s)) (not (is "0" c)) _ _ refl refl
 
 numberAt-alike : {s t : List ℕ} (c : ℕ) → Alike s t → numberAt c s ≡ numberAt c t
-unfolding numberAt openText
+unfolding numberWith openText
 numberAt-alike c (ends e f) = numberAt-ends c e ∙ suffixed-alike c (ends e f) ∙ sym (numberAt-ends c f)
 numberAt-alike c (more d a) = cc (
   prefixed-alike 2 (within "0" "1") refl a,
@@ -97,7 +97,7 @@ unfolding stringAfter openText inQuotes
 stringAfter-alike {s} a = rw (← run-alike inQuotes refl a, test-alike inQuotes refl (is "'") refl refl (run inQuotes s) a (le-refl (run inQuotes s)))
 
 tokenAt-alike : {s t : List ℕ} (c : ℕ) → Alike s t → tokenAt (c ∷ s) ≡ tokenAt (c ∷ t)
-unfolding openText tokenAt inComment
+unfolding openText tokenWith tokenAt inComment
 tokenAt-alike c a = cc (run-alike inComment refl a, run-alike isBlank refl a, numberAt-alike c a, run-alike isWordPart refl a, stringAfter-alike a)
 
 -- THE LAW. Behind a token's first byte only the bytes before the next line feed count.
@@ -133,6 +133,6 @@ behind B c [] l = rw l (ends feed feed)
 behind B c (d ∷ cs) l = more c (behind B d cs l)
 
 pub tokenAt-local : (B : List ℕ) (c : ℕ) (cs : List ℕ) → Lines (c ∷ cs) → tokenAt (c ∷ (cs ++ B)) ≡ tokenAt (c ∷ cs)
-unfolding openText tokenAt
+unfolding openText tokenWith tokenAt
 tokenAt-local B c [] l = rw l refl
 tokenAt-local B c (d ∷ cs) l = tokenAt-alike c (behind B d cs l)

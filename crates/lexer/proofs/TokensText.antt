@@ -21,7 +21,7 @@ use Rattle.lexer.specs.declared.Fault.{Fault}
 use Rattle.lexer.specs.declared.Fault.the-variants.{LargerDigit, TooLarge}
 use Rattle.lexer.specs.declared.TokenRead.{TokenRead}
 use Rattle.lexer.specs.declared.TokenRead.the-variants.{Read, Refused}
-use Rattle.lexer.specs.Tokens.{largest, numeral, stray, prefixed, digits, inBase, suffixed, numberAt, inQuotes, stringAfter, inComment, mark, markAt, tokenAt, sizeOf}
+use Rattle.lexer.specs.Tokens.{largest, numeral, stray, prefixed, digits, suffixBehind, suffixLast, inBase, suffixed, numberWith, numberAt, inQuotes, stringAfter, inComment, mark, markAt, tokenWith, tokenAt, sizeOf}
 use Rattle.lexer.proofs.Branches.{either, given, and-split}
 use Rattle.lexer.proofs.TokensLine.{Lines}
 
@@ -122,12 +122,13 @@ module _ (c : ℕ) (cs : List ℕ) (other-byte : is "\n" c ≡ false) (digit-byt
 
   inBase-fine : (d n : ℕ) (ds cut : List ℕ) (after : ℕ) → 1 ≤ n → Clean n (c ∷ cs) → (anyOf "oO" after ≡ true → Clean (suc n) (c ∷ cs)) → (anyOf "hH" after ≡ true → Clean (suc n) (c ∷ cs))
       → Fine (c ∷ cs) (inBase d n ds cut after)
-  unfolding inBase
+  unfolding inBase suffixBehind suffixLast
   inBase-fine d n ds cut after i l o x =
-      either (Fine (c ∷ cs)) (anyOf "bB" (last ds)) _ _ (either (Fine (c ∷ cs)) (all (λ e. leb e (code "1")) cut) _ _ (digits-fine d 2 cut n i l) (refused-fine n i l LargerDigit))
-      (either (Fine (c ∷ cs)) (anyOf "dD" (last ds)) _ _ (digits-fine d 10 cut n i l)
-      (given (Fine (c ∷ cs)) (anyOf "oO" after) _ _ (λ e. digits-fine d 8 ds (suc n) (omega arith) (o e))
-      (λ _. given (Fine (c ∷ cs)) (anyOf "hH" after) _ _ (λ e. digits-fine d 16 ds (suc n) (omega arith) (x e)) (λ _. digits-fine d 10 ds n i l))))
+      let P : TokenRead → Type 0 = Fine (c ∷ cs) in
+      given P (anyOf "oO" after) _ _ (λ e. digits-fine d 8 ds (suc n) (omega arith) (o e))
+      (λ _. given P (anyOf "hH" after) _ _ (λ e. digits-fine d 16 ds (suc n) (omega arith) (x e))
+      (λ _. either P (anyOf "bB" (last ds)) _ _ (either P (all (λ e. leb e (code "1")) cut) _ _ (digits-fine d 2 cut n i l) (refused-fine n i l LargerDigit))
+      (either P (anyOf "dD" (last ds)) _ _ (digits-fine d 10 cut n i l) (digits-fine d 10 ds n i l))))
 
   -- behind a prefix: c is its `0`, d its letter
   prefixed-fine : (base : ℕ) (p : ℕ → Bool) → p 10 ≡ false → (d : ℕ) (ds : List ℕ) → cs ≡ d ∷ ds → is "\n" d ≡ false → Fine (c ∷ cs) (prefixed base p ds)
@@ -152,7 +153,7 @@ unfolding isHexDigit
 digit-hex c h = rw h
 
 numberAt-fine : (c : ℕ) (cs : List ℕ) → isDigit c ≡ true → is "\n" c ≡ false → Fine (c ∷ cs) (numberAt c cs)
-unfolding numberAt openText
+unfolding numberWith openText
 numberAt-fine c [] h o = suffixed-fine c [] o h (digit-hex c h)
 numberAt-fine c (d ∷ ds) h o =
     let P : TokenRead → Type 0 = Fine (c ∷ d ∷ ds) in
@@ -185,7 +186,7 @@ markAt-fine c cs o =
 
 -- Every token but the line feed's.
 tokenAt-fine : (c : ℕ) (cs : List ℕ) → is "\n" c ≡ false → Fine (c ∷ cs) (tokenAt (c ∷ cs))
-unfolding tokenAt openText inComment
+unfolding tokenWith tokenAt openText inComment
 tokenAt-fine c cs o =
     let P : TokenRead → Type 0 = Fine (c ∷ cs) in
     either P (is ";" c) _ _ (fine _ (omega arith) (o, run-clean inComment refl cs) tt tt)
@@ -198,7 +199,7 @@ tokenAt-fine c cs o =
 -- THE LAWS.
 -- A line feed is a token of its own.
 pub tokenAt-feed : (cs : List ℕ) → tokenAt (10 ∷ cs) ≡ Read (NewLine 1)
-unfolding tokenAt openText
+unfolding tokenWith tokenAt openText
 tokenAt-feed cs = refl
 
 -- What holds of the line feed's token and of every other holds of each.
@@ -222,7 +223,7 @@ clean-le (suc n) [] l = absurd l
 clean-le (suc n) (c ∷ s) l = suc-le-suc (clean-le n s (l .1))
 
 pub tokenAt-le : (s : List ℕ) → sizeOf (tokenAt s) ≤ length s
-unfolding tokenAt
+unfolding tokenWith tokenAt
 tokenAt-le [] = zero-le
 tokenAt-le (c ∷ cs) = by-first (λ (s : List ℕ) (t : TokenRead). sizeOf t ≤ length s) (λ cs. omega arith) (λ c cs f. clean-le (sizeOf (tokenAt (c ∷ cs))) (c ∷ cs) (f .clean)) c cs
 
@@ -234,7 +235,7 @@ clean-all (suc n) [] l = absurd l
 clean-all (suc n) (c ∷ s) l = rw (l .0, clean-all n s (l .1))
 
 pub tokenAt-feedless : (s : List ℕ) → (tokenAt s ≡ Read (NewLine 1)) ⊎ (all inComment (take (sizeOf (tokenAt s)) s) ≡ true)
-unfolding tokenAt all
+unfolding tokenWith tokenAt all
 tokenAt-feedless [] = inr refl
 tokenAt-feedless (c ∷ cs) =
     by-first (λ (s : List ℕ) (t : TokenRead). (t ≡ Read (NewLine 1)) ⊎ (all inComment (take (sizeOf t) s) ≡ true)) (λ cs. inl refl)
@@ -256,7 +257,7 @@ tokenAt-fits c d ds h =
     omega (arith, fits h (omega arith))
 
 pub tokenAt-in-range : (s : List ℕ) → InRange (tokenAt s)
-unfolding tokenAt
+unfolding tokenWith tokenAt
 tokenAt-in-range [] = refl
 tokenAt-in-range (c ∷ cs) = by-first (λ (s : List ℕ) (t : TokenRead). InRange t) (λ cs. tt) (λ c cs f. f .in-range) c cs
 

@@ -3,15 +3,13 @@
 use mathlib.Core.Path.{_≡_}
 use mathlib.Core.Bool.{Bool, true, false, _&&_, _||_}
 use mathlib.Core.List.{List, [], _∷_, map}
-use Prim.Native.Nat.{ℕ, suc, _<_}
+use Prim.Native.Nat.{ℕ, _<_}
 use Prim.Native.Char.{code}
 use lib.ListN.{getD}
 use Rattle.lexer.specs.Text.{if_then_else_, is, isDigit, isLetter, run}
-use Rattle.lexer.specs.Tokens.{mark, tokenAt, sizeOf}
+use Rattle.lexer.specs.Tokens.{mark, suffixed, tokenWith, tokenAt, sizeOf}
 use Rattle.lexer.specs.declared.PunctuationKind.the-variants.{Dot}
-use Rattle.lexer.specs.declared.Token.the-variants.{Identifier}
 use Rattle.lexer.specs.declared.TokenRead.{TokenRead}
-use Rattle.lexer.specs.declared.TokenRead.the-variants.{Read}
 
 -- The token with document 01's names, which are the Rust's: a name goes on with letters, digits and `_`. All else is as in `tokenAt`. Nothing is
 -- read so; it is here to be compared with.
@@ -19,8 +17,7 @@ unfoldable pub isPlainPart : ℕ → Bool
 isPlainPart c = isLetter c || isDigit c
 
 unfoldable pub plainToken : List ℕ → TokenRead
-plainToken [] = tokenAt []
-plainToken (c ∷ cs) = if isLetter c then Read (Identifier (suc (run isPlainPart cs))) else tokenAt (c ∷ cs)
+plainToken s = tokenWith isPlainPart suffixed s
 
 -- Bytes begin with such a name, and a dot follows it directly.
 unfoldable pub dotFollows : List ℕ → Bool

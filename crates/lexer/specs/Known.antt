@@ -1,4 +1,5 @@
--- Samples of document 01's section "Tokens", computed: numbers and names, where a row that does not hold is named, and all the digits.
+-- Samples of document 01's section "Tokens" as document 02 has it, computed: numbers and names, where a row that does not hold is named, and all the
+-- digits.
 use mathlib.Core.Path.{_≡_, refl}
 use mathlib.Core.List.{List, [], _∷_}
 use Prim.Native.Nat.{ℕ, zero, suc}
@@ -7,6 +8,7 @@ use Prim.Native.String.{String}
 use Rattle.lexer.specs.Text.{if_then_else_, bytes, isHexDigit, digit, openText}
 use Rattle.lexer.specs.Tokens.{numeral, stray, mark, tokenAt, openTokens}
 use Rattle.lexer.specs.Dots.{plainToken, openDots}
+use Rattle.lexer.specs.Letters.{lastFirstToken, openLetters}
 use Rattle.lexer.specs.declared.PunctuationKind.the-variants.{Dot}
 use Rattle.lexer.specs.declared.Token.the-variants.{Identifier}
 use Rattle.lexer.specs.declared.Fault.the-variants.{LargerDigit, TooLarge}
@@ -24,19 +26,23 @@ s begins t = record { source = s; token = t }
 -- A source, and its first token.
 unfoldable pub samples : List Sample
 samples =
-    -- b, B, d or D as the last character of the run is the suffix, before what follows the run is looked at
-    "10bh" begins numeral 3 2
-    ∷ "0abh" begins Refused 3 LargerDigit
-    ∷ "0adh" begins stray 48
-    ∷ "1bo" begins numeral 2 1
-    -- else a following o, O, h or H
-    ∷ "17o" begins numeral 3 15
+    -- o, O, h or H directly behind the run is the suffix, and the run stays whole
+    "17o" begins numeral 3 15
     ∷ "0FFh" begins numeral 4 255
-    ∷ "9o" begins stray 57
+    ∷ "10bh" begins numeral 4 267
+    ∷ "0abh" begins numeral 4 171
+    ∷ "0adH" begins numeral 4 173
+    ∷ "1bo" begins stray 49
+    ∷ "9O" begins stray 57
+    -- else b, B, d or D as its last character
+    ∷ "10b h" begins numeral 3 2
+    ∷ "12b" begins Refused 3 LargerDigit
+    ∷ "29D" begins numeral 3 29
     ∷ "12a" begins stray 49
     -- a prefix with at least one digit of its base takes all such digits; with none, the token is the single `0`
     ∷ "0b102" begins numeral 4 2
     ∷ "0bh" begins numeral 1 0
+    ∷ "0x1bh" begins numeral 4 27
     ∷ "0x7fffffff" begins numeral 10 2147483647
     ∷ "0x80000000" begins Refused 10 TooLarge
     ∷ "2147483648" begins stray 50
@@ -48,7 +54,7 @@ Agree (k ∷ ks) = (tokenAt (bytes (k .source)) ≡ k .token) × Agree ks
 
 pub known : Agree samples
 unfolding openTokens samples Agree
-known = (refl, (refl, (refl, (refl, (refl, (refl, (refl, (refl, (refl, (refl, (refl, (refl, (refl, tt)))))))))))))
+known = (refl, (refl, (refl, (refl, (refl, (refl, (refl, (refl, (refl, (refl, (refl, (refl, (refl, (refl, (refl, (refl, (refl, tt)))))))))))))))))
 
 -- A name takes the dots behind its first character, as many as stand there; a dot that starts a token is punctuation. Document 02, Ask 2.
 unfoldable pub dots : List Sample
@@ -70,6 +76,16 @@ pub plain-known : (plainToken (bytes "w12.a equ 5") ≡ Read (Identifier 3)) × 
     × (plainToken (bytes ".a") ≡ mark Dot)
 unfolding openTokens openDots
 plain-known = (refl, refl, refl)
+
+-- By document 01's order the run's last character is looked at before the letter behind it: 2, 30, Invalid, 1, 29; else the token is the same. One
+-- that is too large in both bases is Invalid by both.
+pub last-first-known : (lastFirstToken (bytes "10bh") ≡ numeral 3 2) × (lastFirstToken (bytes "0abh") ≡ Refused 3 LargerDigit)
+    × (lastFirstToken (bytes "0adH") ≡ stray 48) × (lastFirstToken (bytes "1bo") ≡ numeral 2 1) × (lastFirstToken (bytes "29Dh") ≡ numeral 3 29)
+    × (lastFirstToken (bytes "17o") ≡ numeral 3 15) × (lastFirstToken (bytes "0bh") ≡ numeral 1 0)
+    × (lastFirstToken (bytes "12b") ≡ Refused 3 LargerDigit)
+    × (lastFirstToken (bytes "99999999999dh") ≡ stray 57) × (tokenAt (bytes "99999999999dh") ≡ stray 57)
+unfolding openTokens openLetters
+last-first-known = (refl, refl, refl, refl, refl, refl, refl, refl, refl, refl)
 
 -- A digit's character, as a byte, and what the digit is worth.
 pub record Worth : Type 0 where

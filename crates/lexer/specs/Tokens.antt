@@ -1,11 +1,11 @@
 -- The token at the head of a source's rest. Document 01, "Tokens".
 use mathlib.Core.Bool.{Bool, true, false, not, _&&_, _||_}
 use mathlib.Core.List.{List, [], _∷_}
-use Prim.Native.Nat.{ℕ, zero, suc, pred, _+_, _*_, _-_}
-use Prim.Native.Char.{Char, code}
+use Prim.Native.Nat.{ℕ, suc, pred, _+_, _*_, _-_}
+use Prim.Native.Char.{code}
 use lib.Dec.{eqb, leb, ltb}
-use lib.IntN.{ℤ, pos}
-use lib.ListN.{length, take, drop, getD}
+use lib.IntN.{pos}
+use lib.ListN.{take, getD}
 use Rattle.lexer.specs.Text.{if_then_else_, is, within, anyOf, isBlank, isDigit, isHexDigit, isLetter, isWordPart, run, all, last, digit, valueFrom, openText}
 use Rattle.lexer.specs.declared.LiteralKind.the-variants.{Number, Text}
 use Rattle.lexer.specs.declared.PunctuationKind.{PunctuationKind}
@@ -45,31 +45,42 @@ digits c base ds n =
     if all (λ d. ltb (digit d) base) ds && leb v largest then numeral n v else stray c
 
 -- A run ds of n hexadecimal digits that begins with c; `cut` is the run without its last character, `after` the character behind it.
--- A last b, B, d or D is the suffix and leaves the run; else a following o, O, h or H is the suffix; else the base is 10.
--- Binary with a character above `1` is 30.
-unfoldable pub inBase : ℕ → ℕ → List ℕ → List ℕ → ℕ → TokenRead
-inBase c n ds cut after =
+-- An o, O, h or H directly behind the run is the suffix, and the run stays whole.
+unfoldable pub suffixBehind : ℕ → ℕ → List ℕ → ℕ → TokenRead → TokenRead
+suffixBehind c n ds after otherwise =
+    if anyOf "oO" after then digits c 8 ds (suc n)
+    else if anyOf "hH" after then digits c 16 ds (suc n)
+    else otherwise
+
+-- A last b, B, d or D is the suffix and leaves the run. Binary with a character above `1` is 30.
+unfoldable pub suffixLast : ℕ → ℕ → List ℕ → List ℕ → TokenRead → TokenRead
+suffixLast c n ds cut otherwise =
     if anyOf "bB" (last ds) then (if all (λ d. leb d (code "1")) cut then digits c 2 cut n else Refused n LargerDigit)
     else if anyOf "dD" (last ds) then digits c 10 cut n
-    else if anyOf "oO" after then digits c 8 ds (suc n)
-    else if anyOf "hH" after then digits c 16 ds (suc n)
-    else digits c 10 ds n
+    else otherwise
+
+-- The letter behind the run is looked at first (document 02, Ask 4), then its last character; with no suffix the base is 10.
+unfoldable pub inBase : ℕ → ℕ → List ℕ → List ℕ → ℕ → TokenRead
+inBase c n ds cut after = suffixBehind c n ds after (suffixLast c n ds cut (digits c 10 ds n))
 
 unfoldable pub suffixed : ℕ → List ℕ → TokenRead
 suffixed c cs =
     let n : ℕ = run isHexDigit (c ∷ cs) in
     inBase c n (take n (c ∷ cs)) (take (pred n) (c ∷ cs)) (getD (c ∷ cs) n 0)
 
--- the number whose first digit is c, which cs follow
-unfoldable pub numberAt : ℕ → List ℕ → TokenRead
-numberAt c [] = suffixed c []
-numberAt c (d ∷ ds) =
-    if not (is "0" c) then suffixed c (d ∷ ds)
+-- The number whose first digit is c, which cs follow; `unprefixed` reads one without a prefix.
+unfoldable pub numberWith : (ℕ → List ℕ → TokenRead) → ℕ → List ℕ → TokenRead
+numberWith unprefixed c [] = unprefixed c []
+numberWith unprefixed c (d ∷ ds) =
+    if not (is "0" c) then unprefixed c (d ∷ ds)
     else if is "b" d then prefixed 2 (within "0" "1") ds
     else if is "o" d then prefixed 8 (within "0" "7") ds
     else if is "d" d then prefixed 10 isDigit ds
     else if is "x" d then prefixed 16 isHexDigit ds
-    else suffixed c (d ∷ ds)
+    else unprefixed c (d ∷ ds)
+
+abbrev pub numberAt : ℕ → List ℕ → TokenRead
+numberAt c cs = numberWith suffixed c cs
 
 -- A quoted string ends at the next `'` (closed) or before the line feed or end (unclosed). The opening quote has been passed.
 unfoldable pub inQuotes : ℕ → Bool
@@ -104,17 +115,20 @@ markAt c =
     else if is "/" c then mark ForwardSlash
     else stray c
 
-unfoldable pub tokenAt : List ℕ → TokenRead
-tokenAt [] = Read (EndOfFile 0)
-tokenAt (c ∷ cs) =
-    let s : List ℕ = c ∷ cs in
+-- A token, told what a name goes on with and how a number without a prefix is read; these two document 02 has changed (Dots, Letters).
+unfoldable pub tokenWith : (ℕ → Bool) → (ℕ → List ℕ → TokenRead) → List ℕ → TokenRead
+tokenWith part unprefixed [] = Read (EndOfFile 0)
+tokenWith part unprefixed (c ∷ cs) =
     if is ";" c then Read (Comment (suc (run inComment cs)))
     else if isBlank c then Read (Whitespace (suc (run isBlank cs)))
-    else if isDigit c then numberAt c cs
-    else if isLetter c then Read (Identifier (suc (run isWordPart cs)))
+    else if isDigit c then numberWith unprefixed c cs
+    else if isLetter c then Read (Identifier (suc (run part cs)))
     else if is "'" c then stringAfter cs
     else if is "\n" c then Read (NewLine 1)
     else markAt c
+
+unfoldable pub tokenAt : List ℕ → TokenRead
+tokenAt s = tokenWith isWordPart suffixed s
 
 -- A token's length, and that of what is refused.
 abbrev pub lengthOf : Token → ℕ
@@ -136,6 +150,10 @@ abbrev pub faultNumber : Fault → ℕ
 faultNumber LargerDigit = 30
 faultNumber TooLarge = 31
 
+unfoldable pub openNumbers : Unit {0}
+unfolding openText largest numeral stray prefixed digits suffixBehind suffixLast inBase suffixed numberWith
+openNumbers = tt
+
 unfoldable pub openTokens : Unit {0}
-unfolding openText largest numeral stray prefixed digits inBase suffixed numberAt inQuotes stringAfter inComment mark markAt tokenAt
+unfolding openNumbers inQuotes stringAfter inComment mark markAt tokenWith tokenAt
 openTokens = tt

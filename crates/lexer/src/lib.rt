@@ -145,12 +145,19 @@ fn number_literal(source: &[u8], at: usize, to: usize, base: u64, end: usize) ->
     }
 }
 
-// A number with no prefix: a run of hexadecimal digits, whose last is the suffix if it is b or d.
+// A number with no prefix: a run of hexadecimal digits. The letter behind it is the suffix if it is o or h, else its last if it is b or d.
 fn number_literal_with_suffix(source: &[u8], at: usize) -> Scanned
     requires { ⌜ (at < length (now source)) × (isDigit (getD (now source) at 0) ≡ true) ⌝ }
     ensures { λ r. ⌜ r ≡ scannedOf at (suffixed (getD (now (source .entry)) at 0) (drop (suc at) (now (source .entry)))) ⌝ }
 {
     let end = run_end(source, at, 16);
+    let after = char_at(source, end);
+    if is_letter(after, b'o', b'O') {
+        return number_literal(source, at, end, 8, end + 1);
+    }
+    if is_letter(after, b'h', b'H') {
+        return number_literal(source, at, end, 16, end + 1);
+    }
     let last = end - 1;
     let suffix = source[last];
     if is_letter(suffix, b'b', b'B') {
@@ -165,13 +172,6 @@ fn number_literal_with_suffix(source: &[u8], at: usize) -> Scanned
     }
     if is_letter(suffix, b'd', b'D') {
         return number_literal(source, at, last, 10, end);
-    }
-    let after = char_at(source, end);
-    if is_letter(after, b'o', b'O') {
-        return number_literal(source, at, end, 8, end + 1);
-    }
-    if is_letter(after, b'h', b'H') {
-        return number_literal(source, at, end, 16, end + 1);
     }
     number_literal(source, at, end, 10, end)
 }

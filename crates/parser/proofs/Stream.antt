@@ -13,7 +13,7 @@ use lib.ListN.{length, getD, drop, take, drop-of-length-le, length-drop}
 use lib.Seq.{drop-cons, drop-drop, take-nil}
 use borrow.Author.Tests.{ltb-true, ltb-false, eqb-true, eqb-false}
 use Rattle.lexer.specs.Text.{if_then_else_, maybe}
-use Rattle.lexer.specs.Tokens.{tokenAt, sizeOf}
+use Rattle.lexer.specs.Tokens.{tokenWith, tokenAt, sizeOf}
 use Rattle.lexer.specs.Scanned.{kindOf as byteOf, valueOf}
 use Rattle.lexer.specs.declared.TokenRead.{TokenRead}
 use Rattle.lexer.specs.declared.TokenRead.the-variants.{Read, Refused}
@@ -117,7 +117,7 @@ module _ (s : List ℕ) (at : ℕ) where
       (tokens-skip (suc at) _ (drop (suc at) s) (rw e at k) ∙ rw (drop-drop, rw e at n)))
 
   at-end : length s ≤ at → here ≡ Read (EndOfFile 0)
-  unfolding tokenAt
+  unfolding tokenWith tokenAt
   at-end h = rw (drop-of-length-le s h)
 
   end-step : length s ≤ at → From s at ≡ record { from = at; to = at; kind = newline } ∷ []

@@ -1,44 +1,35 @@
 -- Dots in names. Where none follows a name directly, both rules give the same tokens; where one does, the old rule gives a dot, which no reading
 -- accepts.
-use mathlib.Core.Path.{_≡_, refl, ap, _∙_}
+use mathlib.Core.Path.{_≡_, refl, _∙_}
 use mathlib.Core.Bool.{Bool, true, false, true≢false, false≢true}
 use mathlib.Core.List.{List, [], _∷_}
 use mathlib.Core.Logic.{⊎-elim}
 use mathlib.Core.Option.{Option, none, some}
 use Prim.Native.Nat.{ℕ, zero, suc, pred}
 use Prim.Native.Char.{code}
-use lib.ListN.{length, drop, getD}
+use lib.ListN.{length, getD}
 use borrow.Author.Tests.{eqb-true}
 use Rattle.lexer.specs.Text.{if_then_else_, maybe, is, isLetter, run}
-use Rattle.lexer.specs.Tokens.{tokenAt, sizeOf, openTokens}
+use Rattle.lexer.specs.Tokens.{suffixed, tokenWith, tokenAt, sizeOf, openTokens}
 use Rattle.lexer.specs.Dots.{isPlainPart, plainToken, dotFollows}
 use Rattle.lexer.specs.declared.TokenRead.{TokenRead}
 use Rattle.lexer.proofs.Branches.{either, and-split}
-use Rattle.lexer.proofs.Dots.{dotted-names}
+use Rattle.lexer.proofs.Dots.{name-with, dotted-names}
 use Rattle.lexer.proofs.Runs.{one-of}
-use Rattle.lexer.proofs.Scans.{off}
 use Rattle.rules.specs.Lexemes.{kindOf, Lexeme, isGap, lexeme, put, tokensBy, openLexemes}
 use Rattle.rules.specs.Records.{Record}
 use Rattle.rules.specs.Reader.{Refusal, at, nowhere, Answer, isMark, isLineEnd}
-use Rattle.rules.specs.Statements.{Profile, Row, State, push, rows, outcome, readRows, readFrom, reading}
-use Rattle.rules.specs.Calls.{Result, gives, refuses, unless, tooLong, foreign, ascii, lent, lentAt, tokenRead, tokenCall, listed, fullRead, oneFound, oneRead, statementCall}
-use Rattle.rules.specs.Dots.{dotBehindName, tokenBy, statementBy, fullBy, ByRule, SameWithoutDots, OnlyRefused, loneDot, LoneDotsRefused}
+use Rattle.rules.specs.Statements.{Profile, Row, State, push, rows, outcome, readRows}
+use Rattle.rules.specs.Calls.{Result, gives, refuses, unless, tooLong, foreign, ascii, lent, listed, fullRead}
+use Rattle.rules.specs.ByRule.{fullBy, somewhere}
+use Rattle.rules.specs.Dots.{dotBehindName, SameWithoutDots, OnlyRefused, startsWithDot, loneDot, LoneDotsRefused}
 use Rattle.rules.proofs.TokenKinds.{mark-inside}
 use Rattle.rules.proofs.Cut.{tokens-finished, tokens-count, begins-with}
+use Rattle.rules.proofs.ByRule.{by-rule, same-without}
 use Rattle.rules.proofs.DotsStay.{here, further, Beneath, first, later, Denied, begins-denied}
 
--- The same tokens.
-tokens-same : (p k : ℕ) (s : List ℕ) → dotBehindName k s ≡ false → tokensBy tokenAt p k s ≡ tokensBy plainToken p k s
-unfolding tokensBy dotBehindName
-tokens-same p k [] h = refl
-tokens-same p (suc k) (c ∷ cs) h = tokens-same (suc p) k cs h
-tokens-same p zero (c ∷ cs) h =
-    let (a, b) = off (dotFollows (c ∷ cs)) _ h in
-    let t : TokenRead = plainToken (c ∷ cs) in
-    rw (dotted-names .others (c ∷ cs) a) (ap (put p t (c ∷ cs)) (tokens-same (suc p) (pred (sizeOf t)) cs b))
-
 -- A dot among tokens.
-data HasDot : List Lexeme → Type 0 where
+pub data HasDot : List Lexeme → Type 0 where
   head : {x : Lexeme} {xs : List Lexeme} → isMark "." (x .kind) ≡ true → HasDot (x ∷ xs)
   tail : {x : Lexeme} {xs : List Lexeme} → HasDot xs → HasDot (x ∷ xs)
 
@@ -51,37 +42,39 @@ dot-token : (p c : ℕ) (cs : List ℕ) (xs : List Lexeme) → is "." c ≡ true
 unfolding openLexemes isMark is
 dot-token p c cs xs h = rw (eqb-true c (code ".") h) (head refl)
 
-plain-dot : (c : ℕ) (cs : List ℕ) → is "." c ≡ true → plainToken (c ∷ cs) ≡ tokenAt (c ∷ cs)
-unfolding openTokens plainToken is
-plain-dot c cs h = rw (eqb-true c (code ".") h)
+-- By document 01's names, however a number without a prefix is read.
+module _ (unprefixed : ℕ → List ℕ → TokenRead) where
+  abbrev plain : List ℕ → TokenRead
+  plain s = tokenWith isPlainPart unprefixed s
 
--- The byte behind k others is a dot.
-dot-ahead : (p k : ℕ) (cs : List ℕ) → is "." (getD cs k 0) ≡ true → HasDot (tokensBy plainToken p k cs)
-unfolding tokensBy is
-dot-ahead p zero [] h = absurd (false≢true h)
-dot-ahead p (suc k) [] h = absurd (false≢true h)
-dot-ahead p zero (c ∷ cs) h = rw (plain-dot c cs h) (dot-token p c cs _ h)
-dot-ahead p (suc k) (c ∷ cs) h = dot-ahead (suc p) k cs h
+  plain-dot : (c : ℕ) (cs : List ℕ) → is "." c ≡ true → plain (c ∷ cs) ≡ tokenAt (c ∷ cs)
+  unfolding openTokens is
+  plain-dot c cs h = rw (eqb-true c (code ".") h)
 
--- what stands behind the first token
-abbrev behindFirst : ℕ → ℕ → List ℕ → List Lexeme
-behindFirst p c cs = tokensBy plainToken (suc p) (pred (sizeOf (plainToken (c ∷ cs)))) cs
+  -- The byte behind k others is a dot.
+  dot-ahead : (p k : ℕ) (cs : List ℕ) → is "." (getD cs k 0) ≡ true → HasDot (tokensBy plain p k cs)
+  unfolding tokensBy is
+  dot-ahead p zero [] h = absurd (false≢true h)
+  dot-ahead p (suc k) [] h = absurd (false≢true h)
+  dot-ahead p zero (c ∷ cs) h = rw (plain-dot c cs h) (dot-token p c cs _ h)
+  dot-ahead p (suc k) (c ∷ cs) h = dot-ahead (suc p) k cs h
 
-name-dotted : (p c : ℕ) (cs : List ℕ) → dotFollows (c ∷ cs) ≡ true → HasDot (behindFirst p c cs)
-unfolding dotFollows plainToken
-name-dotted p c cs e =
-    let (l, d) = and-split (isLetter c) _ e in
-    rw l (dot-ahead (suc p) (run isPlainPart cs) cs d)
+  name-dotted : (p c : ℕ) (cs : List ℕ) → dotFollows (c ∷ cs) ≡ true → HasDot (tokensBy plain (suc p) (pred (sizeOf (plain (c ∷ cs)))) cs)
+  unfolding dotFollows
+  name-dotted p c cs e =
+      let (l, d) = and-split (isLetter c) _ e in
+      rw (name-with isPlainPart unprefixed c cs l) (dot-ahead (suc p) (run isPlainPart cs) cs d)
 
-tokens-dotted : (p k : ℕ) (s : List ℕ) → dotBehindName k s ≡ true → HasDot (tokensBy plainToken p k s)
-unfolding tokensBy dotBehindName
-tokens-dotted p k [] h = absurd (false≢true h)
-tokens-dotted p (suc k) (c ∷ cs) h = tokens-dotted (suc p) k cs h
-tokens-dotted p zero (c ∷ cs) h = put-dot p (plainToken (c ∷ cs)) (c ∷ cs) _ (⊎-elim (name-dotted p c cs) (λ i. tokens-dotted (suc p) _ cs i) (one-of (dotFollows (c ∷ cs)) _ h))
+  pub tokens-dotted : (p k : ℕ) (s : List ℕ) → somewhere plain dotFollows k s ≡ true → HasDot (tokensBy plain p k s)
+  unfolding tokensBy somewhere
+  tokens-dotted p k [] h = absurd (false≢true h)
+  tokens-dotted p (suc k) (c ∷ cs) h = tokens-dotted (suc p) k cs h
+  tokens-dotted p zero (c ∷ cs) h =
+      put-dot p (plain (c ∷ cs)) (c ∷ cs) _ (⊎-elim (name-dotted p c cs) (λ i. tokens-dotted (suc p) _ cs i) (one-of (dotFollows (c ∷ cs)) _ h))
 
 -- A dot that starts a token.
 tokens-lone : (p k : ℕ) (s : List ℕ) → loneDot k s ≡ true → HasDot (tokensBy tokenAt p k s)
-unfolding tokensBy loneDot
+unfolding tokensBy somewhere startsWithDot
 tokens-lone p k [] h = absurd (false≢true h)
 tokens-lone p (suc k) (c ∷ cs) h = tokens-lone (suc p) k cs h
 tokens-lone p zero (c ∷ cs) h =
@@ -108,24 +101,9 @@ rows-dotted (tail {x} {xs} h) = go (isLineEnd (x .kind)) refl (rows-dotted h)
     go false e i = push-tail x e i
 
 module _ (profile : Profile) where
-  pub by-rule : ByRule profile
-  unfolding tokenCall statementCall fullRead reading readFrom tokenBy statementBy fullBy
-  by-rule = record { ofToken = λ source p. refl; ofStatement = λ source p room. refl; ofFullRead = λ source room. refl }
-
-  same-read : (source : List ℕ) (room : ℕ) → dotBehindName 0 source ≡ false → fullRead profile source room ≡ fullBy plainToken profile source room
-  unfolding fullBy
-  same-read source room h = by-rule .ofFullRead source room
-      ∙ ap (λ (xs : List Lexeme). lent source (listed room (outcome (readRows profile (suc (length source)) (rows xs))))) (tokens-same 0 0 source h)
-
   -- NOTHING ELSE CHANGES.
   pub same-without-dots : SameWithoutDots profile
-  unfolding tokenBy statementBy
-  same-without-dots = record {
-    ofToken = λ source p h. by-rule .ofToken source p ∙ ap (λ (t : TokenRead). lentAt source p (tokenRead p t)) (dotted-names .others (drop p source) h);
-    ofStatement = λ source p room h. by-rule .ofStatement source p room
-        ∙ ap (λ (xs : List Lexeme). lentAt source p (oneFound room (oneRead profile (rows xs)))) (tokens-same p 0 (drop p source) h);
-    ofFullRead = same-read;
-  }
+  same-without-dots = same-without plainToken dotFollows (dotted-names .others) profile
 
   -- What the reading refuses the call refuses.
   lent-denied : (source : List ℕ) (room : ℕ) (a : Answer State (Unit {0})) → Denied profile a → (r : Refusal) × (lent source (listed room (outcome a)) ≡ refuses r)
@@ -139,7 +117,7 @@ module _ (profile : Profile) where
       go false (some p) = (at 2 p (suc p), refl)
 
   -- A dot among the tokens is refused, whatever their rule.
-  has-dot-refused : (rule : List ℕ → TokenRead) (source : List ℕ) (room : ℕ) → HasDot (tokensBy rule 0 0 source) → (r : Refusal) × (fullBy rule profile source room ≡ refuses r)
+  pub has-dot-refused : (rule : List ℕ → TokenRead) (source : List ℕ) (room : ℕ) → HasDot (tokensBy rule 0 0 source) → (r : Refusal) × (fullBy rule profile source room ≡ refuses r)
   unfolding fullBy
   has-dot-refused rule source room h =
       let xs : List Lexeme = tokensBy rule 0 0 source in
@@ -147,11 +125,12 @@ module _ (profile : Profile) where
       (begins-denied profile (begins-with profile xs (length source) (tokens-finished rule 0 0 source) (tokens-count rule 0 0 source)) (rows-dotted h))
 
   dot-refused : (source : List ℕ) (room : ℕ) → dotBehindName 0 source ≡ true → (r : Refusal) × (fullBy plainToken profile source room ≡ refuses r)
-  dot-refused source room h = has-dot-refused plainToken source room (tokens-dotted 0 0 source h)
+  unfolding plainToken
+  dot-refused source room h = has-dot-refused plainToken source room (tokens-dotted suffixed 0 0 source h)
 
   -- A LONE DOT IS REFUSED.
   pub lone-dots-refused : LoneDotsRefused profile
-  lone-dots-refused = record { ofFullRead = λ source room h. let (r, e) = has-dot-refused tokenAt source room (tokens-lone 0 0 source h) in (r, by-rule .ofFullRead source room ∙ e) }
+  lone-dots-refused = record { ofFullRead = λ source room h. let (r, e) = has-dot-refused tokenAt source room (tokens-lone 0 0 source h) in (r, by-rule profile .ofFullRead source room ∙ e) }
 
   -- ONLY SOURCES THAT WERE REFUSED CHANGE.
   pub only-refused : OnlyRefused profile
@@ -160,4 +139,4 @@ module _ (profile : Profile) where
       kept : (source : List ℕ) (before room : ℕ) (w : List Record) → fullBy plainToken profile source before ≡ gives w → (b : Bool) → dotBehindName 0 source ≡ b
           → fullRead profile source room ≡ fullBy plainToken profile source room
       kept source before room w h true e = let (r, i) = dot-refused source before e in absurd (true≢false cc)
-      kept source before room w h false e = same-read source room e
+      kept source before room w h false e = same-without-dots .ofFullRead source room e

@@ -7,7 +7,7 @@ use Prim.Native.String.{String}
 use Rattle.lexer.specs.Text.{bytes}
 use Rattle.names.specs.Table.{operations, spellings, row, rowsOf}
 use Rattle.rules.specs.Statements.{present}
-use Rattle.rules.specs.Records.{Record, ST, VC, LL, LI, LC, LT, listing}
+use Rattle.rules.specs.Records.{Record, ST, VC, LL, LI, LD, LC, LT, listing}
 use Rattle.rules.specs.Reader.{at, nowhere}
 use Rattle.rules.specs.Calls.{Result, gives, refuses, Found, nothing, found, statementCall}
 use Rattle.rules.specs.Patch.{Edit, leavesOpen, patch, openPatch}
@@ -30,7 +30,7 @@ become s rs = gives (record { source = bytes s; records = rs })
 unfoldable pub cases : List Case
 cases =
     -- the reader is cut off behind the new line's line feed
-    case "a\n0abh" (ST 0 ∷ LL 0 1 ∷ []) 0 "in" 1000 (become "in\n0abh" (ST 0 ∷ LI 0 2 4 0 2 2 ∷ []))
+    case "a\n12b" (ST 0 ∷ LL 0 1 ∷ []) 0 "in" 1000 (become "in\n12b" (ST 0 ∷ LI 0 2 4 0 2 2 ∷ []))
     -- statements below, in and behind the line
     ∷ case "a\nb:c\nd" (ST 0 ∷ LL 0 1 ∷ ST 2 ∷ LL 2 3 ∷ ST 4 ∷ LL 4 5 ∷ ST 6 ∷ LL 6 7 ∷ []) 2 "equ 1" 1000
     (become "a\nequ 1\nd" (ST 0 ∷ LL 0 1 ∷ ST 2 ∷ VC 6 7 1 ∷ LC 2 7 ∷ ST 8 ∷ LL 8 9 ∷ []))
@@ -45,6 +45,9 @@ cases =
     -- a name with a dot is the whole count of a `times`
     ∷ case "times a.b\nb" [] 10 "c" 1000 (refuses (nowhere 40))
     ∷ case "w12 equ 5\n" (ST 0 ∷ LL 0 3 ∷ ST 4 ∷ VC 8 9 5 ∷ LC 4 9 ∷ []) 0 "w12.a equ 5" 1000 (become "w12.a equ 5\n" (ST 0 ∷ LL 0 5 ∷ ST 6 ∷ VC 10 11 5 ∷ LC 6 11 ∷ []))
+    -- the letter behind the digits takes the whole run, also of a count
+    ∷ case "dw 1\n" (ST 0 ∷ LD 0 4 (1 ∷ 0 ∷ []) ∷ []) 0 "dw 0abh" 1000 (become "dw 0abh\n" (ST 0 ∷ LD 0 7 (171 ∷ 0 ∷ []) ∷ []))
+    ∷ case "times 10bh\nb" [] 11 "c" 1000 (refuses (nowhere 40))
     -- A line is read alone by the full read, which refuses it with 2 before it looks for a content: it leaves no `times` open. 2 itself is
     -- about the edited source.
     ∷ case "times 2;\u{80}" [] 0 "" 1000 (become "" [])
@@ -65,7 +68,7 @@ Patches (c ∷ cs) = (patch present (bytes (c .old)) (listing (c .records)) (c .
 
 pub patches : Patches cases
 unfolding openPatch spellings row rowsOf operations case become cases Patches
-patches = (refl, (refl, (refl, (refl, (refl, (refl, (refl, (refl, (refl, (refl, (refl, (refl, (refl, (refl, (refl, (refl, (refl, (refl, (refl, tt)))))))))))))))))))
+patches = (refl, (refl, (refl, (refl, (refl, (refl, (refl, (refl, (refl, (refl, (refl, (refl, (refl, (refl, (refl, (refl, (refl, (refl, (refl, (refl, (refl, tt)))))))))))))))))))))
 
 -- A line that is too long, in the place of `nop`: it is 1, as the full read of the edited source is.
 unfoldable pub blanks : ℕ → List ℕ
@@ -90,7 +93,7 @@ pub record Read : Type 0 where
 unfoldable pub reads : List Read
 reads =
     record { source = "a: b"; place = 2; answer = gives (found (ST 3 ∷ LL 3 4 ∷ []) 4) }
-    ∷ record { source = "nop\n0abh"; place = 0; answer = refuses (at 30 4 7) }
+    ∷ record { source = "nop\n12b"; place = 0; answer = refuses (at 30 4 7) }
     ∷ record { source = " ;x\n "; place = 0; answer = gives nothing }
     ∷ record { source = "a"; place = 2; answer = refuses (nowhere 42) }
     ∷ []

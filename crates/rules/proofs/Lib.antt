@@ -36,5 +36,8 @@ pub mod OneRow
 pub mod Data
 pub mod WideRefused
 pub mod DotsStay
+pub mod ByRule
 pub mod Dots
+pub mod Letters
 pub mod DotsRead
+pub mod Original

@@ -8,7 +8,7 @@ use lib.Dec.{eqb, leb, ltb}
 use lib.ListN.{take, drop}
 use borrow.Author.Tests.{eqb-true, eqb-false, ne-eqb}
 use Rattle.lexer.specs.Text.{if_then_else_, among, is, within, anyOf, isBlank, isDigit, isHexDigit, isLetter, run, all, last, digit, valueFrom}
-use Rattle.lexer.specs.Tokens.{largest, numeral, stray, prefixed, digits, inBase, suffixed, numberAt, stringAfter, inComment, mark, markAt, tokenAt, sizeOf}
+use Rattle.lexer.specs.Tokens.{largest, numeral, stray, prefixed, digits, suffixBehind, suffixLast, inBase, suffixed, numberWith, numberAt, stringAfter, inComment, mark, markAt, tokenWith, tokenAt, sizeOf}
 use Rattle.lexer.specs.declared.TokenRead.{TokenRead}
 use Rattle.lexer.proofs.Branches.{either, given}
 use Rattle.rules.specs.Lexemes.{kindOf, Lexeme, isGap, lexeme, put, tokensBy, tokensFrom}
@@ -46,19 +46,19 @@ module _ (s : List ℕ) where
   digits-inside c base ds n = either Inside (all (λ d. ltb (digit d) base) ds && leb (valueFrom 0 base ds) largest) _ _ refl refl
 
   inBase-inside : (c n : ℕ) (ds cut : List ℕ) (after : ℕ) → Inside (inBase c n ds cut after)
-  unfolding inBase isLineEnd
+  unfolding inBase suffixBehind suffixLast isLineEnd
   inBase-inside c n ds cut after =
-      either Inside (anyOf "bB" (last ds)) _ _ (either Inside (all (λ d. leb d (code "1")) cut) _ _ (digits-inside c 2 cut n) refl)
-      (either Inside (anyOf "dD" (last ds)) _ _ (digits-inside c 10 cut n)
-      (either Inside (anyOf "oO" after) _ _ (digits-inside c 8 ds (suc n))
-      (either Inside (anyOf "hH" after) _ _ (digits-inside c 16 ds (suc n)) (digits-inside c 10 ds n))))
+      either Inside (anyOf "oO" after) _ _ (digits-inside c 8 ds (suc n))
+      (either Inside (anyOf "hH" after) _ _ (digits-inside c 16 ds (suc n))
+      (either Inside (anyOf "bB" (last ds)) _ _ (either Inside (all (λ d. leb d (code "1")) cut) _ _ (digits-inside c 2 cut n) refl)
+      (either Inside (anyOf "dD" (last ds)) _ _ (digits-inside c 10 cut n) (digits-inside c 10 ds n))))
 
   suffixed-inside : (c : ℕ) (cs : List ℕ) → Inside (suffixed c cs)
   unfolding suffixed
   suffixed-inside c cs = inBase-inside c _ _ _ _
 
   numberAt-inside : (c : ℕ) (cs : List ℕ) → Inside (numberAt c cs)
-  unfolding numberAt
+  unfolding numberWith
   numberAt-inside c [] = suffixed-inside c []
   numberAt-inside c (d ∷ ds) =
       either Inside (not (is "0" c)) _ _ (suffixed-inside c (d ∷ ds))
@@ -80,7 +80,7 @@ module _ (s : List ℕ) where
       (either Inside (is "-" c) _ _ refl (either Inside (is "*" c) _ _ refl (either Inside (is "/" c) _ _ refl refl)))))))))))
 
   token-inside : (c : ℕ) (cs : List ℕ) → ¬ (c ≡ 10) → Inside (tokenAt (c ∷ cs))
-  unfolding tokenAt isLineEnd is
+  unfolding tokenWith tokenAt isLineEnd is
   token-inside c cs h =
       either Inside (is ";" c) _ _ refl (either Inside (isBlank c) _ _ refl (either Inside (isDigit c) _ _ (numberAt-inside c cs)
       (either Inside (isLetter c) _ _ refl (either Inside (is "'" c) _ _ (stringAfter-inside cs)

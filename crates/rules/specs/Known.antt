@@ -1,17 +1,24 @@
--- Document 01's samples of the rules, "Job file samples": K1 to K12 in one table with one claim, K5 as document 02 has it; and the further ones.
+-- Document 01's samples of the rules, "Job file samples": K1 to K12 in one table with one claim, K5, K10 and K11 as document 02 has them; and the
+-- further ones.
 use mathlib.Core.Path.{_≡_, refl}
+use mathlib.Core.Bool.{Bool, true, false}
 use mathlib.Core.List.{List, [], _∷_}
 use Prim.Native.Nat.{ℕ}
 use Prim.Native.String.{String}
 use lib.IntN.{ℤ, pos, negsuc}
 use Rattle.lexer.specs.Text.{bytes}
 use Rattle.lexer.specs.Dots.{plainToken, openDots}
+use Rattle.lexer.specs.Letters.{lastFirstToken, openLetters}
+use Rattle.lexer.specs.Original.{originalToken, changes, openOriginal}
+use Rattle.lexer.specs.declared.LiteralKind.the-variants.{Number}
+use Rattle.lexer.specs.declared.Token.the-variants.{Literal}
+use Rattle.lexer.specs.declared.TokenRead.{TokenRead}
 use Rattle.names.specs.Table.{operations, spellings, row, rowsOf}
 use Rattle.rules.specs.Statements.{present}
 use Rattle.rules.specs.Records.{Record, ST, VC, VL, VS, PF, IN, OR, OI, OF, OD, OX, LL, LI, LD, LC, LT}
 use Rattle.rules.specs.Reader.{at, nowhere, encoding}
-use Rattle.rules.specs.Calls.{Result, gives, refuses, fullRead, enough, found, statementCall, openCalls}
-use Rattle.rules.specs.Dots.{fullBy, statementBy}
+use Rattle.rules.specs.Calls.{Result, gives, refuses, fullRead, enough, found, tokenCall, statementCall, openCalls}
+use Rattle.rules.specs.ByRule.{tokenBy, statementBy, fullBy, somewhere}
 use Rattle.rules.specs.Evaluate.{evaluate, openEvaluate}
 
 pub record Sample : Type 0 where
@@ -34,8 +41,8 @@ samples =
     ∷ "jmp 1:2" reads gives (ST 0 ∷ VC 4 5 1 ∷ VC 6 7 2 ∷ OF 4 7 ∷ LI 0 7 59 1 4 7 ∷ [])
     ∷ "mov [ ax],bx" reads refuses (encoding 6 5 8 255)
     ∷ "mov ax,[si+di]" reads refuses (at 33 8 13)
-    ∷ "dw 0abh" reads refuses (at 30 3 6)
-    ∷ "dw 10bh" reads refuses (at 15 6 7)
+    ∷ "dw 0abh" reads gives (ST 0 ∷ LD 0 7 (171 ∷ 0 ∷ []) ∷ [])
+    ∷ "dw 10bh" reads gives (ST 0 ∷ LD 0 7 (11 ∷ 1 ∷ []) ∷ [])
     ∷ "equ *5" reads refuses (nowhere 22)
     ∷ []
 
@@ -77,8 +84,8 @@ more =
     ∷ "equ" reads refuses (at 21 3 3)
     ∷ "equ\n" reads refuses (at 21 3 4)
     ∷ "equ 1 2" reads refuses (at 10 6 7)
-    ∷ "nop\n0abh" reads refuses (at 30 4 7)
-    ∷ "\n\n0abh" reads refuses (at 30 2 5)
+    ∷ "nop\n12b" reads refuses (at 30 4 7)
+    ∷ "\n\n12b" reads refuses (at 30 2 5)
     ∷ " \n;x\n" reads gives []
     ∷ "rep movsb\nJNAE x\n" reads gives (
     ST 0 ∷ LI 0 3 46 0 3 3 ∷ ST 4 ∷ LI 4 9 48 0 9 9 ∷ ST 10 ∷ VL 15 16 ∷ OI 15 16 ∷ LI 10 16 64 1 15 16 ∷ [])
@@ -153,7 +160,7 @@ dotted =
     ∷ "times a.b" reads refuses (at 34 0 5)
     ∷ "times 0b.1" reads gives (ST 0 ∷ VC 6 7 0 ∷ LL 7 10 ∷ LT ∷ [])
     ∷ "times 10b.x" reads refuses (at 20 9 10)
-    ∷ "times 1bh.x" reads gives (ST 0 ∷ VC 6 8 1 ∷ LL 8 11 ∷ LT ∷ [])
+    ∷ "times 1bh.x" reads refuses (at 20 9 10)
     ∷ []
 
 pub dotted-known : Agree dotted
@@ -173,12 +180,12 @@ before =
     ∷ "equ *a.b" reads refuses (nowhere 22)
     ∷ []
 
-unfoldable pub Before : List Sample → Type 0
-Before [] = Unit {0}
-Before (k ∷ ks) = (fullBy plainToken present (bytes (k .source)) (enough (bytes (k .source))) ≡ wanted k) × Before ks
+unfoldable pub AgreeBy : (List ℕ → TokenRead) → List Sample → Type 0
+AgreeBy rule [] = Unit {0}
+AgreeBy rule (k ∷ ks) = (fullBy rule present (bytes (k .source)) (enough (bytes (k .source))) ≡ wanted k) × AgreeBy rule ks
 
-pub before-known : Before before
-unfolding openCalls openDots fullBy spellings row rowsOf operations before wanted Before
+pub before-known : AgreeBy plainToken before
+unfolding openCalls openDots fullBy spellings row rowsOf operations before wanted AgreeBy
 before-known = (refl, (refl, (refl, (refl, (refl, (refl, (refl, (refl, tt))))))))
 
 -- That only refused sources change is true of the full read, and not of the statement read. `;a.b` is accepted, before and now, and its statement
@@ -194,6 +201,69 @@ pub before-a-dot : (fullBy plainToken present (bytes "a.b") 100 ≡ refuses (at 
     × (statementCall present (bytes "a.b") 0 100 ≡ gives (found (ST 0 ∷ LL 0 3 ∷ []) 3))
 unfolding openCalls openDots fullBy statementBy spellings row rowsOf operations
 before-a-dot = (refl, refl, refl)
+
+-- The letter behind the digits, document 02, Ask 4: o, O, h or H takes the whole run.
+unfoldable pub letters : List Sample
+letters =
+    "equ 0adh" reads gives (ST 0 ∷ VC 4 8 173 ∷ LC 0 8 ∷ [])
+    ∷ "equ 1Dh" reads gives (ST 0 ∷ VC 4 7 29 ∷ LC 0 7 ∷ [])
+    ∷ "equ 00bH" reads gives (ST 0 ∷ VC 4 8 11 ∷ LC 0 8 ∷ [])
+    ∷ "equ 1bo" reads refuses (at 21 4 5)
+    ∷ "equ 9BO" reads refuses (at 21 4 5)
+    ∷ "equ 7ffffffbh" reads gives (ST 0 ∷ VC 4 13 2147483643 ∷ LC 0 13 ∷ [])
+    ∷ "equ 0ffffffffbh" reads refuses (at 21 4 5)
+    -- behind `times` a name may stand right after a number
+    ∷ "times 10bh" reads refuses (at 34 0 5)
+    ∷ "times 1bhlt" reads gives (ST 0 ∷ VC 6 9 27 ∷ LL 9 11 ∷ LT ∷ [])
+    ∷ "times 1bor ax,bx" reads refuses (at 21 6 7)
+    -- with no such letter the run's last character is the suffix; prefixed numbers keep their rule
+    ∷ "dw 12b" reads refuses (at 30 3 6)
+    ∷ "dw 12b h" reads refuses (at 30 3 6)
+    ∷ "dw 0bh" reads refuses (at 15 4 6)
+    ∷ "db 0dh,0ah" reads refuses (at 15 4 6)
+    ∷ "times 0dh" reads gives (ST 0 ∷ VC 6 7 0 ∷ LL 7 9 ∷ LT ∷ [])
+    ∷ []
+
+pub letters-known : Agree letters
+unfolding openCalls spellings row rowsOf operations letters read wanted Agree
+letters-known = (refl, (refl, (refl, (refl, (refl, (refl, (refl, (refl, (refl, (refl, (refl, (refl, (refl, (refl, (refl, tt)))))))))))))))
+
+-- What K10, K11 and these got before.
+unfoldable pub lettersBefore : List Sample
+lettersBefore =
+    "dw 0abh" reads refuses (at 30 3 6)
+    ∷ "dw 10bh" reads refuses (at 15 6 7)
+    ∷ "equ 0adh" reads refuses (at 21 4 5)
+    ∷ "equ 1Dh" reads refuses (at 10 6 7)
+    ∷ "equ 00bH" reads refuses (at 10 7 8)
+    ∷ "equ 1bo" reads refuses (at 10 6 7)
+    ∷ "equ 9BO" reads refuses (at 30 4 6)
+    ∷ "equ 7ffffffbh" reads refuses (at 30 4 12)
+    ∷ "equ 0ffffffffbh" reads refuses (at 30 4 14)
+    ∷ "times 10bh" reads gives (ST 0 ∷ VC 6 9 2 ∷ LL 9 10 ∷ LT ∷ [])
+    ∷ "times 1bhlt" reads gives (ST 0 ∷ VC 6 8 1 ∷ LI 8 11 93 0 11 11 ∷ LT ∷ [])
+    ∷ "times 1bor ax,bx" reads gives (ST 0 ∷ VC 6 8 1 ∷ OR 11 13 8 ∷ OR 14 16 11 ∷ LI 8 16 44 2 11 16 ∷ LT ∷ [])
+    ∷ []
+
+pub letters-before-known : AgreeBy lastFirstToken lettersBefore
+unfolding openCalls openLetters fullBy spellings row rowsOf operations lettersBefore wanted AgreeBy
+letters-before-known = (refl, (refl, (refl, (refl, (refl, (refl, (refl, (refl, (refl, (refl, (refl, (refl, tt))))))))))))
+
+pub token-before : (tokenBy lastFirstToken (bytes "dw 10bh") 3 ≡ gives (Literal 3 (Number (pos 2))))
+    × (tokenCall (bytes "dw 10bh") 3 ≡ gives (Literal 4 (Number (pos 267))))
+unfolding openCalls openLetters tokenBy
+token-before = (refl, refl)
+
+-- The sources that demand 2 leaves out for their tokens, and some that it does not: in a comment, in quotes, in a name and behind a prefix there is no
+-- such run.
+unfoldable pub leftOut : String → Bool
+leftOut s = somewhere originalToken changes 0 (bytes s)
+
+pub left-out-known : (leftOut "dw 10bh" ≡ true) × (leftOut "nop\ntimes 1bhlt" ≡ true) × (leftOut "dw 1,0Dh" ≡ true) × (leftOut "equ 9bo" ≡ true)
+    × (leftOut "w12.a equ 5" ≡ true) × (leftOut "nop ; 10bh" ≡ false) × (leftOut "db '10bh w12.a'" ≡ false) × (leftOut "x10bh" ≡ false)
+    × (leftOut "dw 0x1bh,0dh,0b1h" ≡ false) × (leftOut "dw 10b h,17o,9o,0FFh" ≡ false)
+unfolding openCalls openDots openLetters openOriginal somewhere leftOut
+left-out-known = (refl, refl, refl, refl, refl, refl, refl, refl, refl, refl)
 
 -- Samples of `evaluate`: an operator's number, two numbers, the answer.
 pub record Evaluation : Type 0 where

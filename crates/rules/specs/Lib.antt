@@ -9,8 +9,11 @@ pub mod Evaluate
 pub mod Decode
 pub mod WellFormed
 pub mod Patch
+pub mod ByRule
 pub mod Dots
+pub mod Letters
 pub mod Known
 pub mod Grammar
 pub mod Claims
 pub mod Data
+pub mod Original

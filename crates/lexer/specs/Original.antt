@@ -1,0 +1,27 @@
+-- Document 01's token, which is the Rust's, and the tokens that document 02 leaves as they were.
+use mathlib.Core.Path.{_≡_}
+use mathlib.Core.Bool.{Bool, true, false, _||_}
+use mathlib.Core.List.{List}
+use Prim.Native.Nat.{ℕ}
+use lib.ListN.{getD}
+use Rattle.lexer.specs.Tokens.{stray, tokenWith, tokenAt}
+use Rattle.lexer.specs.Dots.{isPlainPart, dotFollows}
+use Rattle.lexer.specs.Letters.{letterFollows, lastFirst}
+use Rattle.lexer.specs.declared.TokenRead.{TokenRead}
+
+-- Its names hold no dots (Ask 2), and a run's last character is looked at before the letter behind it (Ask 4).
+unfoldable pub originalToken : List ℕ → TokenRead
+originalToken s = tokenWith isPlainPart lastFirst s
+
+-- Bytes begin with a token that document 02 may have changed.
+unfoldable pub changes : List ℕ → Bool
+changes s = dotFollows s || letterFollows s
+
+-- EVERY OTHER TOKEN IS THE ORIGINAL'S; and of these only what is Invalid by both.
+pub record TokensOfOriginal : Type 0 where
+  pub others : (s : List ℕ) → changes s ≡ false → tokenAt s ≡ originalToken s
+  pub changed : (s : List ℕ) → changes s ≡ true → tokenAt s ≡ originalToken s → tokenAt s ≡ stray (getD s 0 0)
+
+unfoldable pub openOriginal : Unit {0}
+unfolding originalToken changes
+openOriginal = tt
