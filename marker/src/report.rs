@@ -72,6 +72,32 @@ fn lone_dot(source: &[u8], refused: &Refusal, span: Span) -> Option<String> {
     is_dot.then(|| format!("{refused}; outside quotes a dot stands only in a name, behind its first character"))
 }
 
+/// A refusal at the rest of a hexadecimal number whose first two bytes are a prefix, `0b` or `0d`, with how it is written. A crew's `0dh` is the
+/// number 0 and the name `dh`, and `0d5h` is 5 and `h`.
+fn prefix_taken(source: &[u8], refused: &Refusal, span: Span) -> Option<String> {
+    let mut before = None;
+    let mut place = start_of_line(source, span.from);
+    while place < span.from {
+        let token = token(source, place).ok()?;
+        place = token.span.to;
+        before = Some(token);
+    }
+    let number = before.filter(|token| matches!(token.kind, TokenKind::Number(_)) && token.span.to == span.from)?;
+    let rest = token(source, span.from).ok().filter(|token| token.kind == TokenKind::Identifier)?;
+    let meant = std::str::from_utf8(&source[number.span.from..rest.span.to]).ok()?;
+    let is_taken = (meant.starts_with("0b") || meant.starts_with("0d")) && meant.ends_with(['h', 'H']);
+    let written = format!("0{meant}");
+    let is_number =
+        token(written.as_bytes(), 0).is_ok_and(|token| matches!(token.kind, TokenKind::Number(_)) && token.span.to == written.len());
+    (is_taken && is_number).then(|| format!("{refused}; `{}` is a prefix: the hexadecimal number is written `{written}`", &meant[..2]))
+}
+
+/// A refusal at a digit that is a token of its own, which begins a number that can't be read.
+fn no_number(source: &[u8], refused: &Refusal, span: Span) -> Option<String> {
+    let is_digit = matches!(token(source, span.from).ok()?.kind, TokenKind::Invalid(b'0'..=b'9'));
+    is_digit.then(|| format!("{refused}; this number has digits that its base doesn't have, or is above {}", grouped(i32::MAX)))
+}
+
 /// A number with a comma before each three digits.
 fn grouped(number: i32) -> String {
     let (mut text, digits) = (String::new(), number.to_string());
@@ -92,7 +118,7 @@ pub fn refusal(name: &str, source: &[u8], line: usize, refused: &Refusal) -> Str
     };
     let words = match (refused.number, place) {
         (refusals::NUMBER_TOO_WIDE, Some(span)) => too_wide(source, span),
-        (_, Some(span)) => lone_dot(source, refused, span),
+        (_, Some(span)) => [lone_dot, prefix_taken, no_number].iter().find_map(|hint| hint(source, refused, span)),
         _ => None,
     };
     let words = words.unwrap_or_else(|| refused.to_string());
@@ -146,7 +172,7 @@ mod tests {
 
     #[test]
     fn a_mark_under_the_place() {
-        assert_eq!(said("nop\n\tdw 1, 0abh, 2\n"), "f:2:8: a binary number has a digit above 1\n    \tdw 1, 0abh, 2\n    \t      ^^^\n");
+        assert_eq!(said("nop\n\tdw 1, 12b, 2\n"), "f:2:8: a binary number has a digit above 1\n    \tdw 1, 12b, 2\n    \t      ^^^\n");
         assert_eq!(said("equ"), "f:1:4: a value or an operand is expected\n    equ\n       ^\n");
         assert_eq!(said("equ \r\nnop"), "f:1:6: a value or an operand is expected\n    equ \n         ^\n");
         assert_eq!(said("mov [ ax],bx"), "f:1:7: these registers make no address: ax\n    mov [ ax],bx\n          ^\n");
@@ -188,6 +214,35 @@ mod tests {
         assert_eq!(words("dw 1.5"), format!("f:1:5: a number or a quoted text is expected; {hint}"));
         assert_eq!(words("equ $.a"), format!("f:1:6: the end of the line is expected; {hint}"));
         assert_eq!(words("w12.a equ ,.5"), "f:1:11: a value or an operand is expected");
+    }
+
+    #[test]
+    fn a_hexadecimal_number_whose_digits_are_a_prefix() {
+        let words = |source: &str| said(source).lines().next().unwrap().to_string();
+        let hint = |prefix: &str, meant: &str| format!("`{prefix}` is a prefix: the hexadecimal number is written `{meant}`");
+        assert_eq!(words("nop\ndb 0dh,0ah"), format!("f:2:5: a number or a quoted text is expected; {}", hint("0d", "00dh")));
+        assert_eq!(words("dw 1,0b8H"), format!("f:1:7: a number or a quoted text is expected; {}", hint("0b", "00b8H")));
+        assert_eq!(words("k equ 0d5h"), format!("f:1:10: the end of the line is expected; {}", hint("0d", "00d5h")));
+        assert_eq!(words("mov ax,0bh"), format!("f:1:9: the end of the line is expected; {}", hint("0b", "00bh")));
+        for said_so in ["db 00dh,0Dh,0d13,0adh", "dw 10bh"] {
+            assert!(listing(said_so.as_bytes()).is_ok());
+        }
+        for plain in ["db 0d h", "db 0dx", "db 0xh", "db 0dgh", "db 1 dh", "db dh", "db '0'dh", "equ 0bhx", "0dh", "equ 0bffffffffh"] {
+            assert!(!words(plain).contains("prefix"), "{plain}");
+        }
+    }
+
+    #[test]
+    fn a_digit_that_begins_no_number() {
+        let words = |source: &str| said(source).lines().next().unwrap().to_string();
+        let hint = "this number has digits that its base doesn't have, or is above 2,147,483,647";
+        assert_eq!(words("equ 2147483648"), format!("f:1:5: a value or an operand is expected; {hint}"));
+        assert_eq!(words("dw 1,1bo"), format!("f:1:6: a number or a quoted text is expected; {hint}"));
+        assert_eq!(words("nop\ndw 12a"), format!("f:2:4: a number or a quoted text is expected; {hint}"));
+        assert_eq!(words("mov ax,0ffffffffbh"), format!("f:1:8: a value or an operand is expected; {hint}"));
+        for plain in ["1", "dw !", "dw 12b", "equ 1 2"] {
+            assert!(!words(plain).contains("this number"), "{plain}");
+        }
     }
 
     #[test]

@@ -28,13 +28,20 @@ fn rows() -> Vec<Row> {
         row(13, "mov ax,[bx+si 4", 15, 16, "a closing bracket `]` is expected"),
         row(14, "equ (1", 6, 7, "a closing parenthesis `)` is expected"),
         row(15, "db x", 3, 4, "a number or a quoted text is expected"),
-        row(15, "dw 10bh", 6, 7, "a number or a quoted text is expected"),
+        row(15, "dw 1 h", 5, 6, "a number or a quoted text is expected"),
+        row(15, "db 0dh,0ah", 4, 6, "a number or a quoted text is expected; `0d` is a prefix: the hexadecimal number is written `00dh`"),
         row(16, "equ 'a", 4, 6, "a quoted text with its closing quote is expected"),
         row(17, "equ 'ab'", 4, 8, "a quoted text of one character is expected"),
         row(20, "1", 0, 1, "an instruction is expected"),
         row(20, "w12 .a equ 5", 4, 5, "an instruction is expected; outside quotes a dot stands only in a name, behind its first character"),
         row(21, "mov ,", 4, 5, "a value or an operand is expected"),
-        row(21, "equ 2147483648", 4, 5, "a value or an operand is expected"),
+        row(
+            21,
+            "equ 2147483648",
+            4,
+            5,
+            "a value or an operand is expected; this number has digits that its base doesn't have, or is above 2,147,483,647",
+        ),
         // The rules give it no place, and a person gets the operator's.
         row(22, "equ *5", 4, 5, "`*` or `/` stands where a value should begin"),
         row(22, "equ 2*3+(/4)", 9, 10, "`*` or `/` stands where a value should begin"),
@@ -43,7 +50,7 @@ fn rows() -> Vec<Row> {
         address("mov [ ax],bx", 6, 5, 8, 255, "these registers make no address: ax"),
         address("mov [bx+ax],1", 5, 10, 11, 8, "these registers make no address: bx and ax"),
         row(26, "db 'a", 3, 5, "a quoted text is not closed"),
-        row(30, "dw 0abh", 3, 6, "a binary number has a digit above 1"),
+        row(30, "dw 12b", 3, 6, "a binary number has a digit above 1"),
         row(31, "equ 0x80000000", 4, 14, "a number is above 2,147,483,647"),
         row(32, "mov ax,[es:]", 7, 12, "nothing stands behind the segment in the bracket"),
         row(33, "mov ax,[si+di]", 8, 13, "si or di cannot be added to si or di"),
@@ -99,7 +106,7 @@ fn edit_marks_the_place_in_the_new_text_and_leaves_the_file() {
 fn a_file_that_another_line_is_refused_for_is_not_edited() {
     let room = Room::new("itself");
     for (old, said) in [
-        ("nop\nret\n  dw 0abh\n", report("f", 3, "  dw 0abh", (5, 8), "a binary number has a digit above 1")),
+        ("nop\nret\n  dw 12b\n", report("f", 3, "  dw 12b", (5, 8), "a binary number has a digit above 1")),
         ("nop\ndw 70000\ndb 300\n", report("f", 2, "dw 70000", (3, 8), "the number is 70,000, and `dw` takes at most 65,535")),
         ("nop\ntimes 2\n", report("f", 2, "times 2", (0, 5), "`times` has no content")),
         ("nop\n\u{e9}", report("f", 2, "\u{e9}", (0, 1), "a character that is not ASCII")),
@@ -112,7 +119,7 @@ fn a_file_that_another_line_is_refused_for_is_not_edited() {
     // The first line is refused for itself, and so is another.
     for (old, said) in [
         ("dw 70000\nnop\ndb 300\n", report("f", 3, "db 300", (3, 6), "the number is 300, and `db` takes at most 255")),
-        ("\u{e9}\n0abh", report("f", 2, "0abh", (0, 3), "a binary number has a digit above 1")),
+        ("\u{e9}\n12b", report("f", 2, "12b", (0, 3), "a binary number has a digit above 1")),
         // 22, which has no span, at both lines, and behind another
         ("equ *5\nequ /6\n", report("f", 2, "equ /6", (4, 5), "`*` or `/` stands where a value should begin")),
         ("db 256\nequ *5\n", report("f", 2, "equ *5", (4, 5), "`*` or `/` stands where a value should begin")),
@@ -133,7 +140,7 @@ fn the_line_that_a_file_is_refused_for_can_be_exchanged() {
     for (old, line, text, new) in [
         ("nop\nw1: dw 70000\nret\n", "2", "w1: dw 7000", "nop\nw1: dw 7000\nret\n"),
         ("nop\r\nw1: dw 70000\r\nret\r\n", "2", "w1: dw 7000", "nop\r\nw1: dw 7000\r\nret\r\n"),
-        ("dw 0abh", "1", "", ""),
+        ("dw 12b", "1", "", ""),
         ("; \u{e9}\nnop\n", "1", "; e", "; e\nnop\n"),
         ("nop\ntimes 2\n", "2", "times 2 nop", "nop\ntimes 2 nop\n"),
         ("equ *5\na\n", "1", "equ 5", "equ 5\na\n"),
@@ -513,6 +520,7 @@ fn list_prints_the_samples_of_the_rules() {
         ("dw 65535\ndb 255", "ST 0; LD 0 8 2 255 255; ST 9; LD 9 15 1 255"),
         ("jmp 1:2", "ST 0; VC 4 5 1; VC 6 7 2; OF 4 7; LI 0 7 59 1 4 7"),
         ("equ 0x7fffffff", "ST 0; VC 4 14 2147483647; LC 0 14"),
+        ("dw 0abh\ndw 10bh", "ST 0; LD 0 7 2 171 0; ST 8; LD 8 15 2 11 1"),
     ] {
         let lines: Vec<&str> = wanted.split("; ").filter(|line| !line.is_empty()).collect();
         let wanted = lines.iter().map(|line| format!("{line}\n")).collect::<String>() + &format!("END {}\n", lines.len());
