@@ -435,6 +435,20 @@ fn sources_meet_every_refusal() {
     });
 }
 
+/// What is put behind each cause to be refused as a number is refused so, by every rule; and the pieces that sources are made of have each kind
+/// of number.
+#[test]
+fn refused_numbers() {
+    for rules in [Rules::BASE, Rules::NOW] {
+        let number = |text: &[u8]| rules.token(text, 0).err().map(|refusal| (refusal.number, refusal.span.to));
+        let refused = sources::REFUSED.map(|text| number(text.as_bytes()));
+        assert_eq!(refused, [Some((30, 3)), Some((30, 2)), Some((31, 10)), Some((31, 12))]);
+        let pieces = sources::TELLING_PIECES.iter().filter_map(|piece| number(piece));
+        let lettered = (!rules.letter_first).then_some((30, 3));
+        assert_eq!(pieces.collect::<Vec<_>>(), [(30, 3), (31, 10), (30, 2)].into_iter().chain(lettered).collect::<Vec<_>>());
+    }
+}
+
 /// Among the sources a number too wide stands before and behind each other cause that a data line can meet: the first one counts.
 #[test]
 fn orders_on_one_line() {

@@ -390,6 +390,11 @@ fn differences_from_the_original() {
         ("times 1bhlt", accepted, "ST 0; VC 6 9 27; LL 9 11; LT 0 0; END 4"),
         ("times 10bh", "ST 0; VC 6 9 2; LL 9 10; LT 0 0; END 4", "REF 34 0 5 255 255"),
         ("times 1bor ax,bx", "ST 0; VC 6 8 1; OR 11 13 8; OR 14 16 11; LI 8 16 44 2 11 16; LT 0 0; END 6", "REF 21 6 7 255 255"),
+        // behind the name that the original reads there, the two may be refused alike or not; 22 has no place
+        ("times 1bh(", "REF 20 9 10 255 255", "REF 20 9 10 255 255"),
+        ("times 1bor ax,bx\n1", "REF 20 17 18 255 255", "REF 21 6 7 255 255"),
+        ("times 1bhlt\nequ *5", "REF 22 0 0 255 255", "REF 22 0 0 255 255"),
+        ("times 1bor ax,bx\nequ *5", "REF 22 0 0 255 255", "REF 21 6 7 255 255"),
         // prefixed numbers are read alike
         ("db 0dh,0ah", "REF 15 4 6 255 255", "REF 15 4 6 255 255"),
         ("times 0dh", "ST 0; VC 6 7 0; LL 7 9; LT 0 0; END 4", "ST 0; VC 6 7 0; LL 7 9; LT 0 0; END 4"),
