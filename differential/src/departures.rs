@@ -143,12 +143,12 @@ struct Parting<'a> {
 }
 
 impl Parting<'_> {
-    /// Whether the rules give the original's answer, a refusal or the place of the token ahead. They do where it tells neither of the first
-    /// such token nor of what stands behind it: up to there the tokens are theirs. They don't where it tells of that token. A name is a longer
-    /// one, and names nothing; and the dot, at which the original's reading ends at the latest, is no token of theirs. A run is a longer number,
-    /// or one byte that is Invalid; the original refuses it, or has one byte there that is Invalid, or a number and then a name, at which its
-    /// reading ends but behind `times`, where it may go on: its records then hold the span of that number, but a refusal behind the name may be
-    /// any, and None is given. No reading goes beyond a byte that is Invalid, so if it is that in both the answer is the same.
+    /// Whether the rules give the original's answer, a refusal or the place of the token ahead; None where they may and need not. They do where
+    /// it tells neither of the first such token nor of what stands behind it: up to there the tokens are theirs. They don't where it tells of
+    /// that token. A name is a longer one, and names nothing; and the dot, at which the original's reading ends at the latest, is no token of
+    /// theirs. A run is a longer number, or its first byte is Invalid; the original refuses it, or has that Invalid byte, or a number and then a
+    /// name. There its reading ends, but behind `times` it may go on: what it writes holds that number's span, but a refusal behind the name need
+    /// not be another. No reading goes beyond a byte that is Invalid, so where it is that in both the answer is the same.
     fn alike(&self, answer: Result<usize, Refusal>) -> Option<bool> {
         let (before, behind) = match answer {
             Ok(ahead) => (ahead <= self.span.from, false),
@@ -281,8 +281,8 @@ fn underscored_name(source: &mut String, mut end: usize) -> usize {
     end
 }
 
-/// Puts a spelling that is as long for a run with its letter: decimal, or behind a prefix; of one that is no number, a byte that is Invalid
-/// for the first. Whether there is one that the original takes for that number, and of which the same holds no more.
+/// Puts another spelling for a run with its letter, as long as it is: decimal, or behind a prefix; where it is no number, a byte that is Invalid
+/// everywhere for its first. Whether there is one: the original takes it for that number, and it is no such run itself.
 fn respell_run(source: &mut String, from: usize, run: &Run) -> bool {
     let Some(value) = run.value else {
         source.replace_range(from..from + 1, "!");
