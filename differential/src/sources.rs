@@ -383,7 +383,8 @@ pub fn causes() -> Vec<String> {
         // a letter behind a run: numbers, Invalid ones, prefixes, and names directly behind a number
         "dw 0abh", "dw 10bh", "db 10bH", "db 0adh", "db 256dh", "db 0dh,0ah", "equ 1bo", "equ 9bO", "equ 00bh", "equ 7ffffffbh",
         "equ 0ffffffffbh", "equ 0ado", "equ *1bo", "equ (1dh", "in 1bh", "in 0abh,", "jmp 1bh:", "in [1bh", "in [1bo", "in [bx+1bh", "in [es:]1bh",
-        "times 1bh", "times 10bh", "times 1bhlt", "times 1bor ax,bx", "times 0dh", "times 1bh.x", "1bh", "a 0abh", "rep 1bo", "equ 0b1h",
+        "times 1bh", "times 10bh", "times 1bhlt", "times 1bor ax,bx", "times 0dh", "times 1bh.x", "times 0b12bh", "times 0o18dh", "1bh", "a 0abh", "rep 1bo",
+        "equ 0b1h",
         // 32 to 34
         "mov [es:]", "mov ax,[ ds : ]", "mov [es:],ax", "mov [es:", "mov [si+si", "mov [si+di", "mov [di + si]", "mov [es:di+di",
         "times 1", "times 1 times 2", "times times", "times 1\ntimes 2\n", "times 1 ;c",
