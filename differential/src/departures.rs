@@ -8,6 +8,7 @@ use crate::words;
 use laqhoncu::{Refusal, Span, Token, TokenKind};
 use mrc_compiler::ast::Line;
 use mrc_compiler::lexer::{LiteralKind, PunctuationKind, Token as Original};
+use mrc_compiler::parser::ParserError;
 
 /// Why the original is no longer asked.
 #[derive(Clone, Copy, Debug, PartialEq, Eq)]
@@ -20,12 +21,15 @@ pub enum Why {
     WideNumber,
     /// A dot follows a name directly: "Demand 2 now speaks of sources in which no dot follows a name directly." Document 02, Ask 2.
     DottedName,
+    /// An o, O, h or H follows directly behind a run that ends in b, B, d or D, in a number without a prefix: "Demand 2 now leaves out
+    /// sources with such a run." Document 02, Ask 4.
+    LetterBehind,
     /// 3 or 5: an expression or a `times` too deep, in document 01's reading.
     Limits,
 }
 
 impl Why {
-    pub const ALL: [Self; 5] = [Self::Long, Self::Foreign, Self::WideNumber, Self::DottedName, Self::Limits];
+    pub const ALL: [Self; 6] = [Self::Long, Self::Foreign, Self::WideNumber, Self::DottedName, Self::LetterBehind, Self::Limits];
 
     /// In the lines that `compare` prints.
     pub fn words(self) -> &'static str {
@@ -34,24 +38,30 @@ impl Why {
             Self::Foreign => "not ASCII",
             Self::WideNumber => "with a wide number in a data line",
             Self::DottedName => "with a dot right behind a name",
+            Self::LetterBehind => "with o or h right behind a run that ends in b or d",
             Self::Limits => "too deep",
         }
     }
 
     /// Whether document 02 parts there; document 01 did so in the other cases.
     pub fn of_a_request(self) -> bool {
-        matches!(self, Self::WideNumber | Self::DottedName)
+        matches!(self, Self::WideNumber | Self::DottedName | Self::LetterBehind)
+    }
+
+    /// Whether the rules have other tokens there.
+    fn of_tokens(self) -> bool {
+        matches!(self, Self::DottedName | Self::LetterBehind)
     }
 
     /// Whether an answer is one that such a source gets: a refusal that the original never gives, of two causes the one that the reading
-    /// meets first. With a dot in a name it may be any.
+    /// meets first. With another token it may be any.
     fn answers<T>(self, answer: &Result<T, Refusal>) -> bool {
         let refused = |numbers: &[u8]| answer.as_ref().is_err_and(|refusal| numbers.contains(&refusal.number));
         match self {
             Self::Long => refused(&[1]),
             Self::Foreign => refused(&[2]),
             Self::WideNumber => refused(&[3, 5, 60]),
-            Self::DottedName => true,
+            Self::DottedName | Self::LetterBehind => true,
             Self::Limits => refused(&[3, 5]),
         }
     }
@@ -67,8 +77,11 @@ pub fn left_out_statement(source: &[u8], place: usize) -> Option<Why> {
     unreadable(source).or_else(|| parted(text(source), place, Part::OneStatement, || Rules::BASE.statement_read(source, place).err()))
 }
 
-/// Why the original is not asked for a token of an ASCII source, which it gave: a name that is directly followed by a dot.
-fn left_out_token(source: &str, said: &Result<Token, Refusal>) -> Option<Why> {
+/// Why the original is not asked for the token at a place of an ASCII source, where it said this.
+fn left_out_token(source: &str, place: usize, said: &Result<Token, Refusal>) -> Option<Why> {
+    if run_at(source, place).is_some() {
+        return Some(Why::LetterBehind);
+    }
     let Ok(Token { kind: TokenKind::Identifier, span }) = said else { return None };
     let dot = source[span.to..].starts_with('.')
         && original::token_at(source, span.to).is_ok_and(|token| token.kind == TokenKind::Punctuation(b'.'));
@@ -76,8 +89,8 @@ fn left_out_token(source: &str, said: &Result<Token, Refusal>) -> Option<Why> {
 }
 
 /// Whether a request parts from the original in a token of an ASCII source, read in turn.
-pub fn left_out_tokens(source: &str) -> bool {
-    dotted_name(source, 0, Part::Whole).is_some()
+pub fn left_out_tokens(source: &str) -> Option<Why> {
+    parting(source, 0, Part::Whole).map(|parting| parting.why)
 }
 
 /// Sources that the original takes and no read does.
@@ -100,64 +113,163 @@ fn text(source: &[u8]) -> &str {
     std::str::from_utf8(source).unwrap()
 }
 
-/// The causes that are left where a source is readable. What is met before the name counts first; a limit met at the name itself need not
-/// be met there any more.
+/// The causes that are left where a source is readable. What is met before the first token that is another counts first; a limit met at
+/// that token itself need not be met there any more, unless it is Invalid as it was.
 fn parted(source: &str, place: usize, part: Part, base: impl Fn() -> Option<Refusal>) -> Option<Why> {
-    let name = dotted_name(source, place, part);
-    let limit = |refusal: Refusal| matches!(refusal.number, 3 | 5) && name.is_none_or(|name| ends_before(Err(refusal), name));
-    if wide_number(&source[place..], part) {
+    let parting = parting(source, place, part);
+    let rest = &source[place..];
+    let before = parting.as_ref().map_or(rest.len(), |parting| parting.before.len());
+    let limit = |refusal: Refusal| {
+        matches!(refusal.number, 3 | 5) && parting.as_ref().is_none_or(|parting| parting.alike(Err(refusal)) == Some(true))
+    };
+    if wide_number(rest, before, part) {
         Some(Why::WideNumber)
     } else if base().is_some_and(limit) {
         Some(Why::Limits)
     } else {
-        name.map(|_| Why::DottedName)
+        parting.map(|parting| parting.why)
     }
 }
 
-/// The first name that a dot follows directly, among the original's tokens from a place on; of one statement, if the original's reading of
-/// it gets to that name.
-fn dotted_name(source: &str, place: usize, part: Part) -> Option<Span> {
+/// A token of the original's that is another by the rules: a name or a run.
+struct Parting<'a> {
+    why: Why,
+    span: Span,
+    /// Whether a run is Invalid in both readings: `0ado`, and digits that are too many for both bases.
+    invalid: bool,
+    /// What is read before it, and as which part of a source.
+    before: &'a str,
+    part: Part,
+}
+
+impl Parting<'_> {
+    /// Whether the rules give the original's answer, a refusal or the place of the token ahead; None where they may and need not. They do where
+    /// it tells neither of the first such token nor of what stands behind it: up to there the tokens are theirs. They don't where it tells of
+    /// that token. A name is a longer one, and names nothing; and the dot, at which the original's reading ends at the latest, is no token of
+    /// theirs. A run is a longer number, or its first byte is Invalid; the original refuses it, or has that Invalid byte, or a number and then a
+    /// name. There its reading ends, but behind `times` it may go on: what it writes holds that number's span, but a refusal behind the name need
+    /// not be another. No reading goes beyond a byte that is Invalid, so where it is that in both the answer is the same.
+    fn alike(&self, answer: Result<usize, Refusal>) -> Option<bool> {
+        let (before, behind) = match answer {
+            Ok(ahead) => (ahead <= self.span.from, false),
+            Err(refusal) if refusal.number == 22 => (self.why == Why::DottedName || self.refused_before(), true),
+            Err(Refusal { span, .. }) => (span.from < self.span.from && span.to <= self.span.from, span.from > self.span.to),
+        };
+        match before || self.invalid {
+            true => Some(true),
+            false if behind => None,
+            false => Some(false),
+        }
+    }
+
+    /// Whether the original refuses what is before with 22, which has no place.
+    fn refused_before(&self) -> bool {
+        matches!(original::run(self.before, self.part), Ok(Err(ParserError::InvalidPrefixOperator(..))))
+    }
+}
+
+/// The first such token from a place on; of one statement, if the original's reading of it gets there.
+fn parting(source: &str, place: usize, part: Part) -> Option<Parting<'_>> {
     let rest = &source[place..];
-    if !rest.contains('.') {
+    if !rest.contains('.') && !has_letter_behind(rest) {
         return None;
     }
-    let (seen, _) = original::tokens(rest);
-    let dotted = |pair: &[Placed]| {
-        matches!(pair[0].token, Original::Identifier(_))
-            && matches!(pair[1].token, Original::Punctuation(_, PunctuationKind::Dot))
-            && pair[0].to == pair[1].from
+    let (seen, refused) = original::tokens(rest);
+    // The original refuses some runs, and has no token there.
+    let refused = refused.map(|(_, from)| from);
+    let at = |at: usize| {
+        let from = seen.get(at).map(|placed| placed.from).or(refused)?;
+        let invalid = seen.get(at).is_some_and(|placed| matches!(placed.token, Original::Invalid(..)));
+        let (why, to, invalid) = match run_at(rest, from) {
+            Some(run) => (Why::LetterBehind, run.to, invalid && run.value.is_none()),
+            None if seen.get(at..at + 2).is_some_and(dotted) => (Why::DottedName, seen[at].to, false),
+            None => return None,
+        };
+        let span = Span { from: place + from, to: place + to };
+        Some((at, Parting { why, span, invalid, before: &rest[..from], part }))
     };
-    let at = seen.windows(2).position(dotted)?;
-    let met = part == Part::Whole || original::reaches(rest, &seen, at);
-    met.then(|| Span { from: place + seen[at].from, to: place + seen[at].to })
+    let (at, parting) = (0..=seen.len()).find_map(at)?;
+    (part == Part::Whole || original::reaches(rest, &seen, at)).then_some(parting)
 }
 
-/// Whether the original's answer, a refusal or the place of the token ahead, tells neither of the first name that a dot follows nor of what
-/// stands behind it. The rules give the same answer just then: up to that name the tokens are theirs; the name itself is a longer one, and
-/// names nothing; and the dot, at which the original's reading ends at the latest, is no token of theirs.
-fn ends_before(answer: Result<usize, Refusal>, name: Span) -> bool {
-    match answer {
-        Ok(ahead) => ahead <= name.from,
-        Err(Refusal { span, .. }) => span.from < name.from && span.to <= name.from,
-    }
+/// Whether two tokens in turn are a name and a dot directly behind it.
+fn dotted(pair: &[Placed]) -> bool {
+    matches!(pair[0].token, Original::Identifier(_))
+        && matches!(pair[1].token, Original::Punctuation(_, PunctuationKind::Dot))
+        && pair[0].to == pair[1].from
 }
 
-/// A source with `_` for each dot that belongs to a name, from a place on; None where no dot does. No table has a spelling with `_` or with
-/// a dot, and no record holds the text of a name, so the rules read the two alike; and in this one no dot follows a name directly.
-pub fn underscored(source: &str, mut place: usize) -> Option<String> {
-    if !source[place..].contains('.') {
+/// Whether o, O, h or H stands behind b, B, d or D somewhere.
+fn has_letter_behind(source: &str) -> bool {
+    source.as_bytes().windows(2).any(|pair| matches!(pair, [b'b' | b'B' | b'd' | b'D', b'o' | b'O' | b'h' | b'H']))
+}
+
+/// A run of hexadecimal digits that ends in b, B, d or D, with o, O, h or H directly behind it.
+struct Run {
+    /// Where the letter stands.
+    to: usize,
+    /// The number that it is by the rules: in base 16, if that is at most 2147483647. In base 8 it is none: b and d are no such digits.
+    value: Option<i32>,
+}
+
+/// Such a run, where a number without a prefix begins: `0b` and `0d` are prefixes, with a digit behind them or not.
+fn run_at(source: &str, from: usize) -> Option<Run> {
+    let rest = &source.as_bytes()[from..];
+    if !rest.first()?.is_ascii_digit() || rest.starts_with(b"0b") || rest.starts_with(b"0d") {
         return None;
     }
-    let mut other = source.to_string();
-    // Whatever stands behind a refused number is not read.
-    while let Ok(token) = original::token_at(&other, place) {
+    let length = rest.iter().take_while(|byte| byte.is_ascii_hexdigit()).count();
+    if !matches!(rest[length - 1], b'b' | b'B' | b'd' | b'D') {
+        return None;
+    }
+    let value = match rest.get(length)? {
+        b'h' | b'H' => i32::from_str_radix(&source[from..from + length], 16).ok(),
+        b'o' | b'O' => None,
+        _ => return None,
+    };
+    Some(Run { to: from + length, value })
+}
+
+/// A source in which no token is another by the rules, and which they read as they read the one that it was made from.
+pub struct Respelled {
+    pub source: String,
+    /// Whether a dot was exchanged, and whether a run was.
+    pub dots: bool,
+    pub runs: bool,
+}
+
+/// A source with `_` for each dot that belongs to a name, from a place on, and another spelling for each run that a letter follows; None
+/// where there is neither, and where a run has no other spelling. No table has a spelling with `_` or with a dot, and no record holds the
+/// text of a name or of a number, so the rules read the two alike.
+pub fn respelled(source: &str, mut place: usize) -> Option<Respelled> {
+    if !source[place..].contains('.') && !has_letter_behind(&source[place..]) {
+        return None;
+    }
+    let mut other = Respelled { source: source.to_string(), dots: false, runs: false };
+    let mut before: Option<Token> = None;
+    loop {
+        if let Some(run) = run_at(&other.source, place) {
+            other.runs = true;
+            if !respell_run(&mut other.source, place, &run) {
+                return None;
+            }
+            // `0b1` and `0o7` may not go on in the digits that are put behind them.
+            let stays = |token: Token| original::token_at(&other.source, token.span.from) == Ok(token);
+            if !before.is_none_or(stays) {
+                return None;
+            }
+        }
+        // Whatever stands behind a refused number is not read.
+        let Ok(token) = original::token_at(&other.source, place) else { break };
         place = match token.kind {
             TokenKind::EndOfFile => break,
-            TokenKind::Identifier => underscored_name(&mut other, token.span.to),
+            TokenKind::Identifier => underscored_name(&mut other.source, token.span.to),
             _ => token.span.to,
         };
+        other.dots |= place > token.span.to;
+        before = matches!(token.kind, TokenKind::Number(_)).then_some(token);
     }
-    (other != source).then_some(other)
+    (other.dots || other.runs).then_some(other)
 }
 
 /// Puts `_` for the dot that stands where a name ends, and so on where the longer name ends. Gives the end of the longest.
@@ -169,15 +281,34 @@ fn underscored_name(source: &mut String, mut end: usize) -> usize {
     end
 }
 
-/// Whether a data line that the original reads takes a number above 255 (`db`) or 65,535 (`dw`). By its tokens such a number has `db` or
-/// `dw` before it, with literals and commas between; the source up to and with it is then accepted and ends in a data line.
-fn wide_number(source: &str, part: Part) -> bool {
+/// Puts another spelling for a run with its letter, as long as it is: decimal, or behind a prefix; where it is no number, a byte that is Invalid
+/// everywhere for its first. Whether there is one: the original takes it for that number, and it is no such run itself.
+fn respell_run(source: &mut String, from: usize, run: &Run) -> bool {
+    let Some(value) = run.value else {
+        source.replace_range(from..from + 1, "!");
+        return true;
+    };
+    let to = run.to + 1;
+    let number = Ok(Token { kind: TokenKind::Number(value), span: Span { from, to } });
+    [("", value.to_string()), ("0x", format!("{value:x}")), ("0d", value.to_string())].into_iter().any(|(prefix, digits)| {
+        let Some(zeros) = (to - from).checked_sub(prefix.len() + digits.len()) else { return false };
+        source.replace_range(from..to, &format!("{prefix}{}{digits}", "0".repeat(zeros)));
+        run_at(source, from).is_none() && original::token_at(source, from) == number
+    })
+}
+
+/// Whether a data line that the original reads takes a number above 255 (`db`) or 65,535 (`dw`) before a place. By its tokens such a number has
+/// `db` or `dw` before it, with literals and commas between; the source up to and with it is then accepted and ends in a data line.
+fn wide_number(source: &str, before: usize, part: Part) -> bool {
     if !source.as_bytes().windows(2).any(|pair| matches!(pair, [b'd' | b'D', b'b' | b'B' | b'w' | b'W'])) {
         return false;
     }
     // the most that the data word before holds
     let mut most = None;
     for placed in original::tokens(source).0 {
+        if placed.from >= before {
+            return false;
+        }
         match placed.token {
             Original::Identifier(_) => {
                 most = match source[placed.from..placed.to].to_lowercase().as_str() {
@@ -210,12 +341,13 @@ fn ends_in_data(source: &str, part: Part) -> bool {
 }
 
 /// How often the original was asked, how often it is left out for each cause, and how often it was asked of a source with `_` for the dots
-/// in names.
+/// in names, and of one with another spelling for the runs that a letter follows.
 #[derive(Clone, Copy, Debug, Default)]
 pub struct Asked {
     pub asked: u64,
     pub left_out: [u64; Why::ALL.len()],
     pub underscored: u64,
+    pub respelled: u64,
 }
 
 impl Asked {
@@ -226,6 +358,11 @@ impl Asked {
         }
     }
 
+    fn add_respelled(&mut self, dots: bool, runs: bool) {
+        self.underscored += dots as u64;
+        self.respelled += runs as u64;
+    }
+
     pub fn left_out(&self, why: Why) -> u64 {
         self.left_out[why as usize]
     }
@@ -233,26 +370,32 @@ impl Asked {
     /// As `compare` prints it.
     pub fn words(&self) -> String {
         let causes: Vec<String> = Why::ALL.iter().map(|why| format!("{} {}", self.left_out(*why), why.words())).collect();
-        let Self { asked, underscored, .. } = self;
-        format!("{asked} asked, all as the model; left out: {}; {underscored} asked with _ for the dots in names", causes.join(", "))
+        let Self { asked, underscored, respelled, .. } = self;
+        format!(
+            "{asked} asked, all as the model; left out: {}; {underscored} asked with _ for the dots in names, \
+             {respelled} asked with such runs spelled otherwise",
+            causes.join(", ")
+        )
     }
 
     /// The full read of a source: the model of the original is the original, and the model of the rules parts from it just where it is left
-    /// out. With dots in names, the rules answer as they do to the same source with `_` for those dots, of which the same holds.
+    /// out. With other tokens, the rules answer as they do to the same source respelled, of which the same holds.
     pub fn full_read(&mut self, source: &[u8]) {
         let why = left_out(source);
         self.add(why);
         let now = full_read_beside(source, why);
-        if let Some(other) = readable(source).and_then(|source| underscored(source, 0)) {
+        if let Some(Respelled { source: other, dots, runs }) = readable(source).and_then(|source| respelled(source, 0)) {
             let other = other.as_bytes();
             let why = left_out(other);
-            self.underscored += why.is_none() as u64;
             assert!(
-                why != Some(Why::DottedName) && now == full_read_beside(other, why),
+                !why.is_some_and(Why::of_tokens) && now == full_read_beside(other, why),
                 "{}\nand {}",
                 source.escape_ascii(),
                 other.escape_ascii()
             );
+            if why.is_none() {
+                self.add_respelled(dots, runs);
+            }
         }
     }
 
@@ -264,30 +407,43 @@ impl Asked {
         let why = left_out_statement(source, place);
         self.add(why);
         let now = statement_read_beside(source, place, why);
-        if why == Some(Why::DottedName) {
-            let other = underscored(text(source), place).unwrap();
+        if !why.is_some_and(Why::of_tokens) {
+            return;
+        }
+        if let Some(Respelled { source: other, dots, runs }) = respelled(text(source), place) {
             let other = other.as_bytes();
             let why = left_out_statement(other, place);
-            self.underscored += why.is_none() as u64;
             let said = statement_read_beside(other, place, why);
-            assert!(why != Some(Why::DottedName) && now == said, "{} at {place}\nand {}", source.escape_ascii(), other.escape_ascii());
+            assert!(!why.is_some_and(Why::of_tokens) && now == said, "{} at {place}\nand {}", source.escape_ascii(), other.escape_ascii());
+            if why.is_none() {
+                self.add_respelled(dots, runs);
+            }
         }
     }
 
     /// The same of the token at a place of an ASCII source.
     pub fn token(&mut self, source: &str, place: usize) {
         let said = original::token_at(source, place);
-        let why = left_out_token(source, &said);
+        let why = left_out_token(source, place, &said);
         self.add(why);
         let [model, now] = [Rules::ORIGINAL, Rules::NOW].map(|rules| rules.token(source.as_bytes(), place));
         assert!(said == model, "{source:?} at {place}\noriginal  {said:?}\nits model {model:?}");
-        assert!((said == now) == why.is_none(), "{source:?} at {place}\nleft out: {why:?}\noriginal  {said:?}\nthe rules {now:?}");
-        if why == Some(Why::DottedName) {
-            let mut other = source.to_string();
-            underscored_name(&mut other, said.unwrap().span.to);
+        let run = run_at(source, place);
+        let invalid = said.is_ok_and(|token| matches!(token.kind, TokenKind::Invalid(_)));
+        let alike = why.is_none() || run.as_ref().is_some_and(|run| run.value.is_none() && invalid);
+        assert!((said == now) == alike, "{source:?} at {place}\nleft out: {why:?}\noriginal  {said:?}\nthe rules {now:?}");
+        if why.is_none() {
+            return;
+        }
+        let mut other = source.to_string();
+        let there_is = match &run {
+            Some(run) => respell_run(&mut other, place, run),
+            None => underscored_name(&mut other, said.unwrap().span.to) > place,
+        };
+        if there_is {
             let said = original::token_at(&other, place);
-            self.underscored += 1;
-            assert!(said == now, "{other:?} at {place}\noriginal  {said:?}\nthe rules {now:?}, of {source:?}");
+            self.add_respelled(run.is_none(), run.is_some());
+            assert!(same_token(said, now), "{other:?} at {place}\noriginal  {said:?}\nthe rules {now:?}, of {source:?}");
         }
     }
 
@@ -309,9 +465,10 @@ fn full_read_beside(source: &[u8], why: Option<Why>) -> Answer {
         return now;
     };
     let said = original::read(source);
-    let name = dotted_name(text, 0, Part::Whole);
-    assert!(name.is_none() || said.is_err(), "{}: the original accepts a dot", shown());
-    let alike = alike(why, name, said.as_ref().map(|_| source.len()).map_err(|refusal| *refusal));
+    let parting = parting(text, 0, Part::Whole);
+    let dotted = parting.as_ref().is_some_and(|parting| parting.why == Why::DottedName);
+    assert!(!dotted || said.is_err(), "{}: the original accepts a dot", shown());
+    let alike = alike(why, parting, said.as_ref().map(|_| source.len()).map_err(|refusal| *refusal));
     assert_parted(&said, &Rules::ORIGINAL.full_read(source), &Rules::BASE.full_read(source), &now, why, alike, shown);
     now
 }
@@ -331,10 +488,11 @@ fn statement_read_beside(source: &[u8], place: usize, why: Option<Why>) -> State
     if let Ok(Some((_, ahead))) = &model {
         assert!(original::holds(text, place, *ahead), "{}: the original's token ahead is not at {ahead}", shown());
     }
-    let name = dotted_name(text, place, Part::OneStatement);
+    let parting = parting(text, place, Part::OneStatement);
     let ahead = |found: &Option<(Vec<u8>, usize)>| found.as_ref().map_or(source.len(), |(_, ahead)| *ahead);
-    let alike = alike(why, name, model.as_ref().map(ahead).map_err(|refusal| *refusal));
-    assert!((now == model) == alike, "{}: left out: {why:?}\nmodel of the original {model:?}\nthe rules {now:?}", shown());
+    let alike = alike(why, parting, model.as_ref().map(ahead).map_err(|refusal| *refusal));
+    let parts = alike.is_some_and(|alike| (now == model) != alike);
+    assert!(!parts, "{}: left out: {why:?}\nmodel of the original {model:?}\nthe rules {now:?}", shown());
     let records = |read: &StatementRead| read.clone().map(|found| found.map_or(Vec::new(), |(records, _)| records));
     let said = original::read_statement(source, place);
     let base = Rules::BASE.statement_read(source, place);
@@ -342,13 +500,22 @@ fn statement_read_beside(source: &[u8], place: usize, why: Option<Why>) -> State
     now
 }
 
-/// Whether the rules must answer as the original, which answers so.
-fn alike(why: Option<Why>, name: Option<Span>, said: Result<usize, Refusal>) -> bool {
+/// Whether the rules must answer as the original, which answers so; None where they may and need not.
+fn alike(why: Option<Why>, parting: Option<Parting>, said: Result<usize, Refusal>) -> Option<bool> {
     match why {
-        None => true,
-        Some(Why::DottedName) => ends_before(said, name.unwrap()),
-        Some(_) => false,
+        None => Some(true),
+        Some(why) if why.of_tokens() => parting.unwrap().alike(said),
+        Some(_) => Some(false),
     }
+}
+
+/// Whether two tokens are the same, the byte of an Invalid one aside.
+fn same_token(one: Result<Token, Refusal>, other: Result<Token, Refusal>) -> bool {
+    let plain = |token: Token| match token.kind {
+        TokenKind::Invalid(_) => Token { kind: TokenKind::Invalid(0), ..token },
+        _ => token,
+    };
+    one.map(plain) == other.map(plain)
 }
 
 /// The original and the models of it, of document 01 and of the rules as they are.
@@ -358,7 +525,7 @@ fn assert_parted(
     base: &Answer,
     now: &Answer,
     why: Option<Why>,
-    alike: bool,
+    alike: Option<bool>,
     source: impl Fn() -> String,
 ) {
     use crate::answer::shown;
@@ -374,13 +541,13 @@ fn assert_parted(
     if !at_a_limit(base) && base != original {
         fail("document 01 parts from the original, and no limit is met");
     }
-    if why != Some(Why::DottedName) && at_a_limit(now) && now != base {
+    if !why.is_some_and(Why::of_tokens) && at_a_limit(now) && now != base {
         fail("the rules meet a limit that document 01 does not meet there");
     }
-    if alike && now != said {
+    if alike == Some(true) && now != said {
         fail("the rules part from the original where they must not");
     }
-    if !alike && now == said {
+    if alike == Some(false) && now == said {
         fail("a source is left out on which the rules answer as the original");
     }
     if why.is_some_and(|why| !why.answers(now)) {

@@ -84,8 +84,8 @@ fn known() -> Vec<Known> {
         Known::of("a", "", 0, "b\n", refused(43, 0, 0)),
         Known::of("a", "LL 0 1", 0, "b", refused(41, 0, 0)),
         Known::of("a\n", "ST 0; LL 0 1", 2, "equ *5", refused(22, 0, 0)),
-        Known::of("a\n", "ST 0; LL 0 1", 2, "dw 0abh", refused(30, 5, 8)),
-        Known::of("a\n0abh", "ST 0; LL 0 1", 0, "in", written("in\n0abh", "ST 0; LI 0 2 4 0 2 2")),
+        Known::of("a\n", "ST 0; LL 0 1", 2, "dw 12b", refused(30, 5, 8)),
+        Known::of("a\n12b", "ST 0; LL 0 1", 0, "in", written("in\n12b", "ST 0; LI 0 2 4 0 2 2")),
         Known::of(
             "a\nb\n",
             "ST 0; LL 0 1; ST 2; LL 2 3",
@@ -110,7 +110,7 @@ fn known() -> Vec<Known> {
         ),
         Known::of("dw 70000", "ST 0; LD 0 8 2 112 17", 0, "dw 65535", written("dw 65535", "ST 0; LD 0 8 2 255 255")),
         Known::of("a\nb", "ST 0; LL 0 1; ST 2; LL 2 3", 2, "dw 70000", refused(60, 5, 10)),
-        Known::of("a\nb\n0abh", "ST 0; LL 0 1; ST 2; LL 2 3", 2, "k: db 1,0x100,2b", refused(60, 10, 15)),
+        Known::of("a\nb\n12b", "ST 0; LL 0 1; ST 2; LL 2 3", 2, "k: db 1,0x100,2b", refused(60, 10, 15)),
         Known::of("a\nb", "ST 0; LL 0 1; ST 2; LL 2 3", 2, "times 2 db 256", refused(60, 13, 16)),
         Known::of("a\ntimes 2", "ST 0; LL 0 1", 2, "db 256", refused(40, 0, 0)),
         Known::of("times 2\nb", "", 8, "db 256", refused(40, 0, 0)),
@@ -164,11 +164,44 @@ fn dotted() -> Vec<Known> {
     ]
 }
 
+/// Document 02, Ask 4: a line with o or h behind a run that ends in b or d is read, leaves a `times` open or is refused, where document 01 says
+/// something else.
+fn lettered() -> Vec<Known> {
+    let labels = "ST 0; LL 0 1; ST 2; LL 2 3";
+    vec![
+        Known::of("a\nb", labels, 2, "dw 0abh,10bh", written("a\ndw 0abh,10bh", "ST 0; LL 0 1; ST 2; LD 2 14 4 171 0 11 1")),
+        Known::of("a\nb", labels, 0, "k equ 0adh", written("k equ 0adh\nb", "ST 0; LL 0 1; ST 2; VC 6 10 173; LC 2 10; ST 11; LL 11 12")),
+        Known::of("a\nb", labels, 2, "equ 1bo", refused(21, 6, 7)),
+        Known::of("a\nb", labels, 2, "db 10bh", refused(60, 5, 9)),
+        Known::of("a\nb", labels, 2, "db 0dh,0ah", refused(15, 6, 8)),
+        Known::of("a\nb", labels, 2, "dw 12b h", refused(30, 5, 8)),
+        // a `times` whose count takes the letter has no content in it
+        Known::of("a\nb", labels, 2, "times 10bh", refused(40, 0, 0)),
+        Known::of("times 10bh\nb", "", 11, "c", refused(40, 0, 0)),
+        Known::of("times 10bh", "ST 0; VC 6 9 2; LL 9 10; LT 0 0", 0, "c", refused(40, 0, 0)),
+        Known::of("times 0abh\nb", "", 11, "c", refused(40, 0, 0)),
+        Known::of("times 1bo\nb", "", 10, "c", written("times 1bo\nc", "ST 10; LL 10 11")),
+        Known::of("a\nb", labels, 2, "times 1bor ax,bx", refused(21, 8, 9)),
+        Known::of("a\nb", labels, 2, "times 1bhlt", written("a\ntimes 1bhlt", "ST 0; LL 0 1; ST 2; VC 8 11 27; LL 11 13; LT 0 0")),
+        Known::of("a\nb", labels, 2, "times 0dh", written("a\ntimes 0dh", "ST 0; LL 0 1; ST 2; VC 8 9 0; LL 9 11; LT 0 0")),
+        // A listing from before is well-formed, and its lines are copied or dropped unread.
+        Known::of(
+            "times 1bhlt\nb",
+            "ST 0; VC 6 8 1; LI 8 11 93 0 11 11; LT 0 0; ST 12; LL 12 13",
+            12,
+            "equ 1dh",
+            written("times 1bhlt\nequ 1dh", "ST 0; VC 6 8 1; LI 8 11 93 0 11 11; LT 0 0; ST 12; VC 16 19 29; LC 12 19"),
+        ),
+        Known::of("times 1bhlt", "ST 0; VC 6 8 1; LI 8 11 93 0 11 11; LT 0 0", 0, "c", written("c", "ST 0; LL 0 1")),
+    ]
+}
+
 /// Those that hold under some rules.
 pub fn under(rules: Rules) -> Vec<Known> {
     let wide = |known: &Known| matches!(&known.answer, Err(refusal) if refusal.number == 60);
     let dotted = if rules.dots_in_names { dotted() } else { Vec::new() };
-    known().into_iter().chain(dotted).filter(|known| rules.counts_fit || !wide(known)).collect()
+    let lettered = if rules.letter_first { lettered() } else { Vec::new() };
+    known().into_iter().chain(dotted).chain(lettered).filter(|known| rules.counts_fit || !wide(known)).collect()
 }
 
 /// Panics where the patch says something else. Gives how many were asked.

@@ -8,12 +8,13 @@ use crate::patched::{called, shown, Call, Patch};
 use crate::sources::{self, Random};
 use laqhoncu::Refusal;
 
-/// Calls of the patch: bytes above 127, wide numbers, dots in names, each cause of a refusal and long lines, then random ones. Where a source
-/// is no longer accepted, its listing is document 01's.
+/// Calls of the patch: bytes above 127, wide numbers, dots in names, letters behind a run, each cause of a refusal and long lines, then random
+/// ones. Where a source is no longer accepted, its listing is document 01's.
 pub fn calls(count: u64, f: &mut impl FnMut(&Call)) {
     foreign(f);
     wide(f);
     dotted(f);
+    lettered(f);
     causes(f);
     longest(f);
     at_random(count, f);
@@ -138,8 +139,19 @@ fn dotted(f: &mut impl FnMut(&Call)) {
     beside(&lines, &["\na.b", "", "\ntimes a. b"], f);
 }
 
-/// Each of some lines above, as the replaced one and as the new one, and one below; with the source's own listing, with one that is
-/// another's, and with none.
+/// Letters behind a run: numbers, Invalid ones and prefixes; in the count of a `times`, where a name may stand directly behind a number, so that
+/// it was another `times`, or is one that is left open.
+fn lettered(f: &mut impl FnMut(&Call)) {
+    #[rustfmt::skip]
+    let lines = [
+        "", "nop", "times 2", "times 10bh", "times 1bhlt", "times 1bor ax,bx", "times 0dh", "times 1bh a", "dw 0abh,10bH", "db 1bo", "db 12b",
+        "db 0dh", "k equ 256dh", "db 256dh", "; times 10bh", "times 2 ; 1bh", "times 0abh",
+    ];
+    beside(&lines, &["\nequ 1bh", "", "\ntimes 1bhlt"], f);
+}
+
+/// Each of some lines above, as the replaced one and as the new one, and one below; with the source's own listing, with document 01's where
+/// that is another, with one that is another's, and with none.
 fn beside(lines: &[&str], belows: &[&str], f: &mut impl FnMut(&Call)) {
     for above in lines {
         for replaced in lines {
@@ -149,6 +161,10 @@ fn beside(lines: &[&str], belows: &[&str], f: &mut impl FnMut(&Call)) {
                     let (place, text) = (above.len() + 1, text.as_bytes());
                     let listing = read(&source).unwrap_or_default();
                     f(&Call { source: &source, listing: &listing, place, text });
+                    match Rules::BASE.full_read(&source) {
+                        Ok(before) if before != listing => f(&Call { source: &source, listing: &before, place, text }),
+                        _ => {}
+                    }
                     if below.is_empty() {
                         let shorter = read(replaced.as_bytes()).unwrap_or_default();
                         f(&Call { source: &source, listing: &shorter, place, text });
@@ -207,6 +223,10 @@ pub struct Count {
     pub too_long: u64,
     /// calls whose listing is document 01's, of a source that is refused with 60 now
     pub old_listings: u64,
+    /// calls with a letter behind a run in the old source or in the text, which document 01's rule of the suffix reads otherwise
+    pub lettered: u64,
+    /// of these, the calls whose listing is that rule's, of a source that has another one now or none
+    pub suffix_listings: u64,
     /// how often each refusal was expected
     pub met: Met,
     #[cfg(original)]
@@ -227,6 +247,11 @@ impl Count {
         let now = Rules::NOW.full_read(call.source);
         let old = now.is_err_and(|refusal| refusal.number == 60) && read(call.source).is_ok_and(|listing| listing == call.listing);
         self.old_listings += if old { calls } else { 0 };
+        let (now, suffix) = (|source| Rules::NOW.full_read(source), |source| Rules::NOW.suffix_first().full_read(source));
+        let [in_source, in_text] = [call.source, call.text].map(|source| now(source) != suffix(source));
+        self.lettered += if in_source || in_text { calls } else { 0 };
+        let old = in_source && suffix(call.source).is_ok_and(|listing| listing == call.listing);
+        self.suffix_listings += if old { calls } else { 0 };
         #[cfg(original)]
         [call.source, call.text, &edited].into_iter().for_each(|source| self.asked.full_read(source));
     }
@@ -263,10 +288,11 @@ fn line_starts(source: &[u8]) -> Vec<usize> {
     std::iter::once(0).chain((1..=source.len()).filter(|at| source[at - 1] == b'\n')).collect()
 }
 
-/// New lines beside the random ones: a `times` that is left open, whole lines, refused ones, dots in names.
+/// New lines beside the random ones: a `times` that is left open, whole lines, refused ones, dots in names, letters behind a run.
 #[rustfmt::skip]
-const TEXTS: [&str; 11] = [
-    "times 2", "times 2 nop", "\t; bare", "k equ *5", "dw 0abh", "db 'open", "rep", "w dw 65536", "db 256,2b", "w12.a equ 5", "times a.b",
+const TEXTS: [&str; 15] = [
+    "times 2", "times 2 nop", "\t; bare", "k equ *5", "dw 12b", "db 'open", "rep", "w dw 65536", "db 256,2b", "w12.a equ 5", "times a.b",
+    "dw 0abh,10bh", "times 10bh", "times 1bhlt", "k equ 1bo",
 ];
 
 /// Demand 3, with no model between: on accepted sources, each of their lines and random texts, some with a byte above 127 or as long as a

@@ -18,6 +18,8 @@ pub struct Count {
     pub sources: u64,
     pub accepted: u64,
     pub records_bytes: u64,
+    /// sources that document 01's rule of the suffix reads otherwise
+    pub lettered: u64,
 }
 
 pub struct Compare<F> {
@@ -49,6 +51,7 @@ impl<F: FullRead> Compare<F> {
         #[cfg(original)]
         self.asked.full_read(source);
         self.count.sources += 1;
+        self.count.lettered += (expected != self.rules.suffix_first().full_read(source)) as u64;
         match &expected {
             Ok(listing) => {
                 self.count.accepted += 1;
@@ -94,6 +97,8 @@ pub struct CompareStatements<F> {
     rules: Rules,
     ours: F,
     pub reads: u64,
+    /// reads that are others by document 01's rule of the suffix
+    pub lettered: u64,
     pub written: u64,
     pub none_left: u64,
     pub met: Met,
@@ -107,6 +112,7 @@ impl<F: FnMut(&[u8], usize, &mut [u8]) -> StatementAnswer> CompareStatements<F> 
             rules,
             ours,
             reads: 0,
+            lettered: 0,
             written: 0,
             none_left: 0,
             met: Met::default(),
@@ -121,6 +127,7 @@ impl<F: FnMut(&[u8], usize, &mut [u8]) -> StatementAnswer> CompareStatements<F> 
         #[cfg(original)]
         self.asked.statement_read(source, place);
         self.reads += 1;
+        self.lettered += (expected != self.rules.suffix_first().statement_read(source, place)) as u64;
         match &expected {
             Ok(Some((listing, _))) => {
                 self.written += 1;

@@ -14,8 +14,8 @@ pub fn samples() -> Vec<(Vec<u8>, String)> {
         ("jmp 1:2", "ST 0; VC 4 5 1; VC 6 7 2; OF 4 7; LI 0 7 59 1 4 7; END 5"),
         ("mov [ ax],bx", "REF 25 6 5 8 255"),
         ("mov ax,[si+di]", "REF 33 8 13 255 255"),
-        ("dw 0abh", "REF 30 3 6 255 255"),
-        ("dw 10bh", "REF 15 6 7 255 255"),
+        ("dw 0abh", "ST 0; LD 0 7 2 171 0; END 2"),
+        ("dw 10bh", "ST 0; LD 0 7 2 11 1; END 2"),
         ("equ *5", "REF 22 0 0 255 255"),
         // the others
         ("", "END 0"),
@@ -26,7 +26,7 @@ pub fn samples() -> Vec<(Vec<u8>, String)> {
     ]
     .map(|(source, answer)| (source.as_bytes().to_vec(), answer.to_string()))
     .to_vec();
-    let requested = wide().into_iter().chain(dotted());
+    let requested = wide().into_iter().chain(dotted()).chain(lettered());
     list.extend(requested.map(|(source, answer)| (source.as_bytes().to_vec(), answer.to_string())));
     let nested = |depth| format!("equ {}1{}", "(".repeat(depth), ")".repeat(depth)).into_bytes();
     list.extend([
@@ -69,7 +69,7 @@ fn wide() -> [(&'static str, &'static str); 31] {
         ("db '',256", "REF 60 6 9 255 255"),
         // behind 30, 31 and whatever comes first
         ("db 1,12b,256", "REF 30 5 8 255 255"),
-        ("db 2560abh", "REF 30 3 9 255 255"),
+        ("db 2560ab", "REF 30 3 9 255 255"),
         ("db 0x80000000", "REF 31 3 13 255 255"),
         ("db 2147483648", "REF 15 3 4 255 255"),
         ("db a,256", "REF 15 3 4 255 255"),
@@ -84,7 +84,7 @@ fn wide() -> [(&'static str, &'static str); 31] {
 }
 
 /// Document 02, Ask 2: dots in names, and dots that start a token.
-fn dotted() -> [(&'static str, &'static str); 49] {
+fn dotted() -> [(&'static str, &'static str); 50] {
     [
         ("w12.a equ 5", "ST 0; LL 0 5; ST 6; VC 10 11 5; LC 6 11; END 5"),
         // as many as stand there: a last dot and two dots belong to the name, and digits behind a dot
@@ -132,7 +132,8 @@ fn dotted() -> [(&'static str, &'static str); 49] {
         // names and numbers: `0b` has no digit there
         ("times 0b.1", "ST 0; VC 6 7 0; LL 7 10; LT 0 0; END 4"),
         ("times 10b.x", "REF 20 9 10 255 255"),
-        ("times 1bh.x", "ST 0; VC 6 8 1; LL 8 11; LT 0 0; END 4"),
+        ("times 1bh.x", "REF 20 9 10 255 255"),
+        ("times 1x.h", "ST 0; VC 6 7 1; LL 7 10; LT 0 0; END 4"),
         // the other refusals before and behind such a name
         ("equ *5\na.b", "REF 22 0 0 255 255"),
         ("equ *a.b", "REF 22 0 0 255 255"),
@@ -141,5 +142,88 @@ fn dotted() -> [(&'static str, &'static str); 49] {
         ("db a.b", "REF 15 3 6 255 255"),
         ("a.b 12b", "REF 30 4 7 255 255"),
         ("in [es:]a.b", "REF 32 3 8 255 255"),
+    ]
+}
+
+/// Document 02, Ask 4: o or h behind a run that ends in b or d, by the rows of its table; prefixes, which keep their rule; and what follows from
+/// it for the other statements.
+fn lettered() -> [(&'static str, &'static str); 66] {
+    [
+        // 0s and 1s and a last b
+        ("equ 10bh", "ST 0; VC 4 8 267; LC 0 8; END 3"),
+        ("equ 10BH", "ST 0; VC 4 8 267; LC 0 8; END 3"),
+        ("equ 1bh", "ST 0; VC 4 7 27; LC 0 7; END 3"),
+        ("equ 00bh", "ST 0; VC 4 8 11; LC 0 8; END 3"),
+        ("equ 0Bh", "ST 0; VC 4 7 11; LC 0 7; END 3"),
+        ("equ 11111111bh", "REF 21 4 5 255 255"),
+        // a larger digit before the b
+        ("equ 0abh", "ST 0; VC 4 8 171; LC 0 8; END 3"),
+        ("equ 2Bh", "ST 0; VC 4 7 43; LC 0 7; END 3"),
+        ("equ 7ffffffbh", "ST 0; VC 4 13 2147483643; LC 0 13; END 3"),
+        ("equ 8000000bh", "REF 21 4 5 255 255"),
+        ("equ 0ffffffffbh", "REF 21 4 5 255 255"),
+        // decimal digits and a last d
+        ("equ 1dh", "ST 0; VC 4 7 29; LC 0 7; END 3"),
+        ("equ 0Dh", "ST 0; VC 4 7 13; LC 0 7; END 3"),
+        ("equ 00dH", "ST 0; VC 4 8 13; LC 0 8; END 3"),
+        ("equ 256dh", "ST 0; VC 4 9 9581; LC 0 9; END 3"),
+        ("equ 2147483647dh", "REF 21 4 5 255 255"),
+        ("equ 99999999999dh", "REF 21 4 5 255 255"),
+        // another letter before the d
+        ("equ 0adh", "ST 0; VC 4 8 173; LC 0 8; END 3"),
+        ("equ 0FdH", "ST 0; VC 4 8 253; LC 0 8; END 3"),
+        ("equ 7ffffffdh", "ST 0; VC 4 13 2147483645; LC 0 13; END 3"),
+        ("equ 0ffffffffdh", "REF 21 4 5 255 255"),
+        // each of the four before o: b and d are no octal digits
+        ("equ 1bo", "REF 21 4 5 255 255"),
+        ("equ 9bO", "REF 21 4 5 255 255"),
+        ("equ 1Do", "REF 21 4 5 255 255"),
+        ("equ 0ado", "REF 21 4 5 255 255"),
+        // no such letter directly behind, or no such run before it
+        ("equ 12b", "REF 30 4 7 255 255"),
+        ("dw 12b h", "REF 30 3 6 255 255"),
+        ("dw 0ab", "REF 30 3 6 255 255"),
+        ("equ 10b", "ST 0; VC 4 7 2; LC 0 7; END 3"),
+        ("equ 10b h", "REF 10 8 9 255 255"),
+        ("equ 10d", "ST 0; VC 4 7 10; LC 0 7; END 3"),
+        ("equ 10bx", "REF 10 7 8 255 255"),
+        ("equ 10bhh", "REF 10 8 9 255 255"),
+        ("equ 17o", "ST 0; VC 4 7 15; LC 0 7; END 3"),
+        ("equ 0FFh", "ST 0; VC 4 8 255; LC 0 8; END 3"),
+        // prefixed numbers keep their rule
+        ("dw 0bh", "REF 15 4 6 255 255"),
+        ("db 0dh,0ah", "REF 15 4 6 255 255"),
+        ("equ 0bo", "REF 10 5 7 255 255"),
+        ("equ 0b1h", "REF 10 7 8 255 255"),
+        ("equ 0x1bh", "REF 10 8 9 255 255"),
+        ("equ 0d1h", "REF 10 7 8 255 255"),
+        ("equ 0o1dh", "REF 10 7 9 255 255"),
+        ("times 0dh", "ST 0; VC 6 7 0; LL 7 9; LT 0 0; END 4"),
+        ("times 0b12bh", "REF 20 9 12 255 255"),
+        // behind `times` a name may stand directly behind a number
+        ("times 10bh", "REF 34 0 5 255 255"),
+        ("times 10bh a", "ST 0; VC 6 10 267; LL 11 12; LT 0 0; END 4"),
+        ("times 1bhlt", "ST 0; VC 6 9 27; LL 9 11; LT 0 0; END 4"),
+        ("times 1bor ax,bx", "REF 21 6 7 255 255"),
+        ("times 1b nop", "ST 0; VC 6 8 1; LI 9 12 97 0 12 12; LT 0 0; END 4"),
+        // everywhere a number may stand
+        ("db 0abh,0adH", "ST 0; LD 0 12 2 171 173; END 2"),
+        ("in 1bh", "ST 0; VC 3 6 27; OI 3 6; LI 0 6 4 1 3 6; END 4"),
+        ("in [1dh]", "ST 0; VC 4 7 29; OD 3 8 0 0; LI 0 8 4 1 3 8; END 4"),
+        ("in [bx+1bh]", "ST 0; VC 7 10 27; PF 6 10 0; OX 3 11 7 1 0 0; LI 0 11 4 1 3 11; END 5"),
+        ("jmp 1bh:1dh", "ST 0; VC 4 7 27; VC 8 11 29; OF 4 11; LI 0 11 59 1 4 11; END 5"),
+        ("equ -1bh*0abh", "ST 0; VC 5 8 27; PF 4 8 1; VC 9 13 171; IN 4 13 2; LC 0 13; END 6"),
+        ("in [1bo]", "REF 24 4 5 255 255"),
+        ("db 1bo", "REF 15 3 4 255 255"),
+        ("1bh", "REF 20 0 3 255 255"),
+        // beside the other refusals
+        ("db 10bh", "REF 60 3 7 255 255"),
+        ("db 2560abh", "REF 60 3 10 255 255"),
+        ("db 256,0abh", "REF 60 3 6 255 255"),
+        ("db 0abh,12b", "REF 30 8 11 255 255"),
+        ("equ *0abh", "REF 22 0 0 255 255"),
+        ("in [es:]0abh", "REF 32 3 8 255 255"),
+        ("a.b equ 0abh", "ST 0; LL 0 3; ST 4; VC 8 12 171; LC 4 12; END 5"),
+        ("1bh.x", "REF 20 0 3 255 255"),
     ]
 }

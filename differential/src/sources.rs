@@ -13,6 +13,8 @@ pub fn all(scale: u64, f: &mut impl FnMut(&[u8])) {
     data_lines(f);
     dotted_rows(3 + extra, f);
     dotted_lines(f);
+    lettered_rows(3 + extra, f);
+    lettered_lines(f);
     long(f);
     let mut random = Random::new(1);
     for _ in 0..200_000 * scale {
@@ -22,6 +24,9 @@ pub fn all(scale: u64, f: &mut impl FnMut(&[u8])) {
     }
     for _ in 0..100_000 * scale {
         f(&noise(&mut random, 40));
+    }
+    for _ in 0..100_000 * scale {
+        f(lettered_line(&mut random).as_bytes());
     }
 }
 
@@ -91,12 +96,15 @@ pub const TELLING_BYTES: [&[u8]; 20] =
 /// Bytes that a dot can stand behind: of names, of numbers, of every other class.
 pub const DOT_BYTES: [&[u8]; 12] = [b".", b"a", b"_", b"b", b"0", b"1", b"x", b" ", b"\n", b"'", b";", b"$"];
 
+/// Bytes of a run and of what may stand behind it: digits of every base, both suffixes, both letters, a prefix, a dot.
+pub const LETTER_BYTES: [&[u8]; 14] = [b"0", b"1", b"9", b"a", b"b", b"B", b"d", b"D", b"h", b"H", b"o", b"O", b"x", b"."];
+
 /// Pieces at which the parser decides.
 #[rustfmt::skip]
-pub const TELLING_PIECES: [&[u8]; 37] = [
+pub const TELLING_PIECES: [&[u8]; 38] = [
     b"mov ", b"rep ", b"equ ", b"db ", b"dw ", b"times ", b"a", b"a ", b"ax", b"bx", b"si", b"es", b"byte ", b"[", b"]", b"(",
-    b")", b"+", b"-", b"*", b":", b",", b"$", b"1", b"0abh", b"0x80000000", b"'c'", b"'cd'", b"'", b"'' ", b" ", b"\n", b";",
-    b".", b"\r", b"!", b"2b",
+    b")", b"+", b"-", b"*", b":", b",", b"$", b"1", b"12b", b"0x80000000", b"'c'", b"'cd'", b"'", b"'' ", b" ", b"\n", b";",
+    b".", b"\r", b"!", b"2b", b"0abh",
 ];
 
 /// Fewer pieces, for longer rows.
@@ -111,9 +119,10 @@ const NAMES: [&str; 18] = [
     "a", "w12", "_x", "start", "sal", "xlat", "repe", "movs", "times1", "bytes", "equ", "byte", "h", "times", "w12.a", "ax.b", "a..", "db.",
 ];
 #[rustfmt::skip]
-const NUMBERS: [&str; 26] = [
+const NUMBERS: [&str; 31] = [
     "0", "1", "10", "255", "256", "65535", "65536", "70000", "2147483647", "2147483648", "0x1F", "0x7fffffff", "0x80000000",
     "0b101", "0o17", "0d9", "101b", "17o", "12h", "0FFh", "0abh", "10bh", "99999999999", "12a", "0B", "0x",
+    "12b", "00Bh", "2dH", "1bo", "0dh",
 ];
 /// Numbers that a byte holds, and numbers that a word holds beside them.
 const BYTES: [&str; 12] = ["0", "1", "7", "10", "127", "255", "0x1F", "0b101", "17o", "0d9", "0FFh", "011b"];
@@ -187,15 +196,53 @@ fn statement(random: &mut Random, text: &mut String, nesting: usize) {
 fn datum(random: &mut Random, wide: bool) -> &'static str {
     match random.below(24) {
         0 => random.of(&NUMBERS),
-        1 => random.of(&EDGES),
-        2..=8 => random.of(&STRINGS),
+        1 | 2 => random.of(&EDGES),
+        3..=8 => random.of(&STRINGS),
         9..=14 if wide => random.of(&WORDS),
         _ => random.of(&BYTES),
     }
 }
 
 fn number_or_string(random: &mut Random) -> String {
-    if random.once_in(3) { random.of(&STRINGS) } else { random.of(&NUMBERS) }.to_string()
+    match random.below(12) {
+        0..=3 => random.of(&STRINGS).to_string(),
+        4 => lettered(random),
+        _ => random.of(&NUMBERS).to_string(),
+    }
+}
+
+/// A run that ends in b, B, d or D, with o, O, h or H behind it: binary digits, decimal ones or any before the last; short, about as long as
+/// 2147483647 is, and longer. Some are prefixes, which have another rule.
+pub fn lettered(random: &mut Random) -> String {
+    let digits = random.of(&["01", "0123456789", "0123456789abcdefABCDEF"]).as_bytes();
+    let length = match random.below(8) {
+        0 => random.below(40),
+        1 => 5 + random.below(5),
+        2 => 0,
+        _ => random.below(4),
+    };
+    let mut text = String::from(digits[random.below(digits.len().min(10))] as char);
+    text.extend((0..length).map(|_| digits[random.below(digits.len())] as char));
+    text + random.of(&["b", "B", "d", "D"]) + random.of(&["h", "h", "H", "H", "o", "O"])
+}
+
+/// A line with such a run at each place where a number may stand, and with something behind it.
+pub fn lettered_line(random: &mut Random) -> String {
+    #[rustfmt::skip]
+    let heads = [
+        "", "equ ", "k equ 1+", "db ", "dw 1,", "DB 'a'", "times ", "times -", "times 2\ntimes 1*", "in ", "mov ax,", "jmp 1:", "in [",
+        "in [es:", "in [bx+", "in [bp+si-", "mov byte [", "a: dw ", "rep ", "db 256,", "equ *", "in [es:]", "a.b equ ",
+    ];
+    #[rustfmt::skip]
+    let tails = [
+        "", "", "\n", " ", ",", "]", ")", ":2", "+1", "-a", "lt", "lt\n", " nop", "\nnop", " db 1", "a", "b", "1", "h", "r ax,bx", ".x", "x.y", "'c'",
+        " 12b", "\n0x80000000", ",256", "],ax", "*1bh", " ; 1bh\n",
+    ];
+    let line = random.of(&heads).to_string() + &lettered(random) + random.of(&tails);
+    if random.once_in(4) {
+        return line + &lettered(random);
+    }
+    line
 }
 
 fn operand(random: &mut Random, text: &mut String) {
@@ -307,7 +354,7 @@ pub fn noise(random: &mut Random, most: usize) -> Vec<u8> {
 }
 
 /// Numbers that are refused when they become the token ahead.
-pub const REFUSED: [&str; 4] = ["0abh", "2b", "0x80000000", "0d2147483648"];
+pub const REFUSED: [&str; 4] = ["12b", "2b", "0x80000000", "0d2147483648"];
 
 /// Beginnings of a line that end right where a refusal is due or has just been missed: each cause, and lines that are whole.
 pub fn causes() -> Vec<String> {
@@ -333,6 +380,11 @@ pub fn causes() -> Vec<String> {
         // dots: in names, and where a token starts
         "a.", "a.b", "a..b:", "in ax.b", "in es.", "in [bx.a]", "in [es.x:1", "in [bx+si.a", "in [si+di.]", "mov.x", "rep.", "times.x 2",
         "times a.b", "times 2 a.b", "equ -a.", "equ $.", "equ 1.", "a .b", "in [.", "db 'a'.", "db a.b",
+        // a letter behind a run: numbers, Invalid ones, prefixes, and names directly behind a number
+        "dw 0abh", "dw 10bh", "db 10bH", "db 0adh", "db 256dh", "db 0dh,0ah", "equ 1bo", "equ 9bO", "equ 00bh", "equ 7ffffffbh",
+        "equ 0ffffffffbh", "equ 0ado", "equ *1bo", "equ (1dh", "in 1bh", "in 0abh,", "jmp 1bh:", "in [1bh", "in [1bo", "in [bx+1bh", "in [es:]1bh",
+        "times 1bh", "times 10bh", "times 1bhlt", "times 1bor ax,bx", "times 0dh", "times 1bh.x", "times 0b12bh", "times 0o18dh", "1bh", "a 0abh", "rep 1bo",
+        "equ 0b1h",
         // 32 to 34
         "mov [es:]", "mov ax,[ ds : ]", "mov [es:],ax", "mov [es:", "mov [si+si", "mov [si+di", "mov [di + si]", "mov [es:di+di",
         "times 1", "times 1 times 2", "times times", "times 1\ntimes 2\n", "times 1 ;c",
@@ -355,7 +407,9 @@ pub fn causes() -> Vec<String> {
     }
     for count in [15, 16, 17] {
         for unit in ["times 1 ", "times 1\n", "times 1 ;\n\n", "TIMES times\n"] {
-            for tail in ["", "a", "times", "times ", "times *", "a\ntimes 1 b", "5", "db 256", "db 256,2b", "times.x", "a.b"] {
+            let tails =
+                ["", "a", "times", "times ", "times *", "a\ntimes 1 b", "5", "db 256", "db 256,2b", "times.x", "a.b", "times 1bh", "1bo"];
+            for tail in tails {
                 list.push(unit.repeat(count) + tail);
             }
         }
@@ -444,7 +498,7 @@ fn dotted_rows(most: usize, f: &mut impl FnMut(&[u8])) {
     #[rustfmt::skip]
     let heads = [
         "", "a", "mov", "in ax", "in word", "in es", "in [bx", "in [si+di", "in [es", "equ a", "equ -", "k equ", "times", "times a", "times 2 a",
-        "times 0b", "times 1bh", "db 1", "jmp a:b",
+        "times 0b", "times 1bh", "times 1x", "db 1", "jmp a:b",
     ];
     #[rustfmt::skip]
     let pieces: [&[u8]; 15] = [
@@ -485,10 +539,60 @@ fn dotted_lines(f: &mut impl FnMut(&[u8])) {
     each(&lines, 3, f);
 }
 
+/// Every short row of the bytes of numbers, by itself and behind what a number may follow.
+fn lettered_rows(most: usize, f: &mut impl FnMut(&[u8])) {
+    each_behind(&["times ", "dw "], &LETTER_BYTES, most + 1, f);
+    let heads = ["", "equ ", "equ -", "db 1,", "in ", "mov ax,", "jmp 1:", "in [", "in [bx+", "times 2 ", "a:", "times 1\ntimes "];
+    each_behind(&heads, &LETTER_BYTES, most, f);
+    // at the limits: depth 33 would begin at such a run, a 17th `times` has one before it or behind
+    for count in [30, 31, 32, 33] {
+        for opener in ["(", "-", "1+-", "1bh*("] {
+            for head in ["equ ", "in [1+", "times ", "times 1bh equ "] {
+                for number in ["1bh", "0abh", "0adh", "1bo", "0ado", "12b", "0dh", "99999999999dh"] {
+                    let row = opener.repeat(count / levels(opener)) + &"(".repeat(count % levels(opener));
+                    f(format!("{head}{row}{number}").as_bytes());
+                    f(format!("{head}{row}{number}{}\nequ 1bh", ")".repeat(row.matches('(').count())).as_bytes());
+                }
+            }
+        }
+    }
+    for count in [15, 16, 17] {
+        for unit in ["times 1 ", "times 1bh\n", "times 0abH ", "times 1bhtimes 1 "] {
+            for tail in ["times 1bh", "times 1bh a", "times 1bhtimes 2 a", "times 0abh a", "times 1bo", "1bh", "0abh", "a\nequ 1bh"] {
+                f((unit.repeat(count) + tail).as_bytes());
+            }
+        }
+    }
+}
+
+/// Every row of up to three lines, some with a letter behind a run, some with another refusal, before and behind it; and every short row of
+/// such pieces on a data line.
+fn lettered_lines(f: &mut impl FnMut(&[u8])) {
+    let deep = format!("equ {}1bh\n", "-".repeat(32));
+    #[rustfmt::skip]
+    let lines: [&[u8]; 24] = [
+        b"k equ 0abh\n", b"dw 10bh\n", b"db 0abH,0x80000000\n", b"times 10bh\n", b"times 1bhlt\n", b"times 1bor ax,bx\n", b"times 1bh\n",
+        b"times 2\n", b"equ 1bo\n", b"equ 0ado\n", b"equ *1bo\n", b"; 1bh\n", b"db '1bh'\n", b"db 0dh\n", b"times 0dh\n", b"db 256\n",
+        b"db 256dh\n", b"in [es:]0abh\n", b"a.b\n", b"1bh.x\n", b"12b\n", b"equ *5\n", b"a\n", deep.as_bytes(),
+    ];
+    each(&lines, 3, f);
+    #[rustfmt::skip]
+    let pieces: [&[u8]; 16] = [
+        b" 1bh", b",0abh", b" 256", b" 256dh", b" 12b", b",0x80000000", b" 1bo", b" 0ado", b" 'x", b" a.b", b" a", b"\n", b" db", b" ;1bh",
+        b"times", b"0dh",
+    ];
+    each_behind(&["db", "times 1bh db", "times 1bhlt\n dw"], &pieces, 3, f);
+}
+
 /// Long sources: at and around 65,536 bytes, deep beyond every limit, long rows of one thing.
 pub fn long(f: &mut impl FnMut(&[u8])) {
     for length in [65535, 65536, 65537, 70000] {
-        for unit in ["a", "\n", " ", ";", "a\n", "in-1\n", "nop\n", "db 1\n", "dw 65535\n", "times 1 a\n", "equ 1+2*3\n", "a.", "a.b c. "] {
+        #[rustfmt::skip]
+        let units = [
+            "a", "\n", " ", ";", "a\n", "in-1\n", "nop\n", "db 1\n", "dw 65535\n", "times 1 a\n", "equ 1+2*3\n", "a.", "a.b c. ", "db 0abh\n",
+            "times 1bha\n",
+        ];
+        for unit in units {
             let mut text = unit.repeat(length / unit.len() + 1);
             text.truncate(length);
             f(text.as_bytes());
@@ -510,6 +614,9 @@ pub fn long(f: &mut impl FnMut(&[u8])) {
         f("\u{e9}".repeat(count).as_bytes());
         f(format!("a{} equ 1", ".".repeat(count)).as_bytes());
         f(format!("{}db 256", "a.b: in c.,d.e\n".repeat(count / 4)).as_bytes());
+        for (first, last) in [("0", "bh"), ("0", "dH"), ("1", "bh"), ("1", "bo"), ("0", "7ffffffdh"), ("0", "8000000bh"), ("2", "b")] {
+            f(format!("equ {first}{}{last}", "0".repeat(count)).as_bytes());
+        }
     }
 }
 

@@ -15,6 +15,8 @@ pub struct Compare<F> {
     ours: F,
     pub sources: u64,
     pub tokens: u64,
+    /// tokens that document 01's rule of the suffix reads otherwise
+    pub lettered: u64,
     pub met: Met,
     #[cfg(original)]
     pub asked: Asked,
@@ -27,6 +29,7 @@ impl<F: TokenRead> Compare<F> {
             ours,
             sources: 0,
             tokens: 0,
+            lettered: 0,
             met: Met::default(),
             #[cfg(original)]
             asked: Asked::default(),
@@ -40,6 +43,8 @@ impl<F: TokenRead> Compare<F> {
         let said = (self.ours)(source.as_bytes(), place);
         assert!(said == expected, "{source:?} at {place}\nexpected {expected:?}\nsaid     {said:?}");
         self.tokens += 1;
+        let digit = source.as_bytes().get(place).is_some_and(u8::is_ascii_digit);
+        self.lettered += (digit && expected != self.rules.suffix_first().token(source.as_bytes(), place)) as u64;
         expected
     }
 
@@ -70,21 +75,30 @@ impl<F: TokenRead> Compare<F> {
         }
     }
 
-    /// Every source of the usual run: over four million. `scale` 1 takes some seconds.
+    /// Every source of the usual run: over six million, and many times that by `scale`. `scale` 1 takes some seconds.
     pub fn all(&mut self, scale: u64) {
         sources::each(&sources::TELLING_BYTES, 5, &mut |source| self.source(source));
         sources::each(&sources::DOT_BYTES, 5, &mut |source| self.source(source));
+        sources::each(&sources::LETTER_BYTES, if scale > 1 { 6 } else { 5 }, &mut |source| self.source(source));
         let bytes: Vec<[u8; 1]> = (0..128).map(|b| [b]).collect();
         let bytes: Vec<&[u8]> = bytes.iter().map(|b| b.as_slice()).collect();
         sources::each(&bytes, 2, &mut |source| self.every_place(source));
         numbers(&mut |source| if source.len() < 20 { self.every_place(source.as_bytes()) } else { self.source(source.as_bytes()) });
         for length in [65535, 65536] {
-            for unit in
-                ["a", "0", "f", " ", "\t\r", "\n", ";", "$", "\u{7f}", "a1_ ", "0x1 ", "'\n", "1b", ".", "a.", "a. ", "_..", "1.", "0b.1 "]
-            {
+            #[rustfmt::skip]
+            let units = [
+                "a", "0", "f", " ", "\t\r", "\n", ";", "$", "\u{7f}", "a1_ ", "0x1 ", "'\n", "1b", ".", "a.", "a. ", "_..", "1.", "0b.1 ", "1bh",
+                "0abH ", "1dO ", "1bh.", "0bh",
+            ];
+            for unit in units {
                 self.source(&repeated(unit, length));
             }
-            for (open, close) in [("'", "'"), ("'", ""), ("'", "\n"), (";", "\n"), ("0x", ""), ("a.", "."), ("1.", "")] {
+            #[rustfmt::skip]
+            let ends = [
+                ("'", "'"), ("'", ""), ("'", "\n"), (";", "\n"), ("0x", ""), ("a.", "."), ("1.", ""), ("", "bh"), ("", "DH"), ("1", "dh"),
+                ("", "7ffffffbh"), ("", "b"), ("0x", "bh"),
+            ];
+            for (open, close) in ends {
                 let middle = repeated("0", length - open.len() - close.len());
                 self.source(&[open.as_bytes(), &middle, close.as_bytes()].concat());
             }
@@ -92,6 +106,9 @@ impl<F: TokenRead> Compare<F> {
         // The whole rest is looked through at each quote, and the whole run at each digit of a number that is too large.
         for unit in ["1", "'", "''", "'a' ", "'a'\n"] {
             self.source(&repeated(unit, 4096));
+        }
+        for behind in ["bo", "dO", "bh", "dH"] {
+            self.source(&[repeated("1", 4094).as_slice(), behind.as_bytes()].concat());
         }
         let mut random = Random::new(2);
         for _ in 0..400_000 * scale {
@@ -112,6 +129,14 @@ impl<F: TokenRead> Compare<F> {
             let source = number_like(&mut random);
             self.source(&source);
         }
+        for i in 0..400_000 * scale {
+            let source = lettered_like(&mut random);
+            if i % 8 == 0 {
+                self.every_place(&source)
+            } else {
+                self.source(&source)
+            }
+        }
     }
 
     /// A call, which tests the place and the source before it reads the token. Panics where the two differ.
@@ -124,6 +149,7 @@ impl<F: TokenRead> Compare<F> {
             self.asked.token(&text, place);
         }
         self.tokens += 1;
+        self.lettered += (expected != self.rules.suffix_first().token_read(source, place)) as u64;
         if let Err(refusal) = expected {
             self.met.add(&refusal);
         }
@@ -169,16 +195,29 @@ fn number_like(random: &mut Random) -> Vec<u8> {
     text
 }
 
+/// A run with o, O, h or H behind it, behind something that may go on in it, and with something behind that may.
+fn lettered_like(random: &mut Random) -> Vec<u8> {
+    let before = random.of(&["", "", "", "", "0", "1", "00", "0b1", "0o7", "0d9", "0x", "a", "_", "12h", "$", "'", ";", "."]);
+    let behind = random.of(&["", "", "", " ", "h", "o", "b", "d", "9", "g", ",", "x", ".", "_", "\n"]);
+    let text = before.to_string() + &sources::lettered(random) + behind;
+    if random.once_in(4) {
+        return (text + &sources::lettered(random)).into_bytes();
+    }
+    text.into_bytes()
+}
+
 /// Numbers at the edges: 2147483647 and its neighbours in each base, spelled in each way, with zeros before and things behind.
 pub fn numbers(f: &mut impl FnMut(&str)) {
     let edges: [u64; 16] = [0, 1, 2, 7, 8, 9, 10, 15, 16, 255, 2147483646, 2147483647, 2147483648, 2147483649, 4294967295, 4294967296];
-    for value in edges.into_iter().chain([u64::MAX, 1 << 62, 21474836470, 0x7fffffff0]) {
+    // the hexadecimal ones that end in b, c and d on both sides of 2147483647
+    let suffixed = (0x7ffffffb..=0x7ffffffd).chain(0x8000000b..=0x8000000d);
+    for value in edges.into_iter().chain([u64::MAX, 1 << 62, 21474836470, 0x7fffffff0]).chain(suffixed) {
         let spelled = [format!("{value:b}"), format!("{value:o}"), format!("{value}"), format!("{value:x}"), format!("{value:X}")];
         for digits in spelled {
             for zeros in ["", "0", "000", &"0".repeat(40)] {
                 for prefix in ["", "0b", "0o", "0d", "0x", "0B", "0O", "0D", "0X"] {
                     for suffix in ["", "b", "B", "o", "O", "d", "D", "h", "H"] {
-                        for behind in ["", " ", "h", "o", "b", "9", "g", ",", "x", ".", "g."] {
+                        for behind in ["", " ", "h", "H", "o", "O", "b", "9", "g", ",", "x", ".", "g."] {
                             f(&format!("{prefix}{zeros}{digits}{suffix}{behind}"));
                         }
                     }

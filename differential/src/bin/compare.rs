@@ -1,6 +1,6 @@
 //! Compares the proved library with the model of its rules, and, where the original is there, the model with the original; and the library
 //! with recorded answers. Ends with a panic at the first difference. `--long` takes more sources. `--base` compares with document 01 alone,
-//! for a library from before document 02.
+//! for a library from before document 02; `--suffix-first` with the rules without its Ask 4.
 use differential::answer::Named;
 use differential::model::Rules;
 use differential::patched::Call;
@@ -29,11 +29,15 @@ fn main() {
         match word.as_str() {
             "--long" => long = true,
             "--base" => rules = Rules::BASE,
-            _ => panic!("compare [--long] [--base]"),
+            "--suffix-first" => rules = rules.suffix_first(),
+            _ => panic!("compare [--long] [--base] [--suffix-first]"),
         }
     }
     let begun = std::time::Instant::now();
     recorded();
+    if rules.letter_first {
+        recorded_respelled();
+    }
     println!("known patches: {} calls, all as the rules say", known::replay(rules, patch));
     let (values, met) = values::all(if long { 10_000_000 } else { 500_000 }, laqhoncu::evaluate);
     assert!(met.iter().all(|count| *count > 100), "too little was compared");
@@ -49,25 +53,28 @@ fn main() {
     println!("compared in {:.1} s", begun.elapsed().as_secs_f64());
 }
 
+/// Panics where a recorded list has another answer. Gives how many it has.
+fn replayed(list: &str, said: impl Fn(&[u8]) -> String) -> usize {
+    let asked = recorded::entries(list).map(|(source, expected)| {
+        let said = said(&source);
+        assert!(said == expected, "{:?}\nrecorded {expected}\nsaid     {said}", recorded::escaped(&source));
+    });
+    asked.count()
+}
+
 fn recorded() {
-    let (mut tokens, mut words, mut reads) = (0, 0, 0);
-    for (source, expected) in recorded::entries(recorded::TOKENS) {
-        let said = recorded::tokens_of(&source, &mut laqhoncu::token);
-        assert!(said == expected, "{:?}\nrecorded {expected}\nsaid     {said}", recorded::escaped(&source));
-        tokens += 1;
-    }
-    for (word, expected) in recorded::entries(recorded::WORDS) {
-        let said = recorded::names_of(&word, &mut named);
-        assert!(said == expected, "{:?}\nrecorded {expected}\nsaid     {said}", recorded::escaped(&word));
-        words += 1;
-    }
-    for (source, expected) in recorded::entries(recorded::READS) {
-        let said = recorded::read_of(&laqhoncu::listing(&source));
-        assert!(said == expected, "{:?}\nrecorded {expected}\nsaid     {said}", recorded::escaped(&source));
-        reads += 1;
-    }
+    let tokens = replayed(recorded::TOKENS, |source| recorded::tokens_of(source, &mut laqhoncu::token));
+    let words = replayed(recorded::WORDS, |word| recorded::names_of(word, &mut named));
+    let reads = replayed(recorded::READS, |source| recorded::read_of(&laqhoncu::listing(source)));
     assert!(tokens > 1000 && words > 500 && reads > 500, "the recorded lists are short");
     println!("recorded answers: tokens of {tokens} sources, {words} words, {reads} full reads, all as recorded");
+}
+
+fn recorded_respelled() {
+    let tokens = replayed(recorded::RESPELLED_TOKENS, |source| recorded::tokens_of(source, &mut laqhoncu::token));
+    let reads = replayed(recorded::RESPELLED_READS, |source| recorded::read_of(&laqhoncu::listing(source)));
+    assert!(tokens > 300 && reads > 100, "the recorded lists are short");
+    println!("recorded answers to other spellings of runs: tokens of {tokens} sources, {reads} full reads, all as recorded");
 }
 
 fn tokens_and_words(rules: Rules, long: bool) {
@@ -76,8 +83,9 @@ fn tokens_and_words(rules: Rules, long: bool) {
     let [larger_digit, too_large] = [30, 31].map(|number| compare.met.times(number));
     assert!(compare.sources > 3_000_000 && larger_digit > 0 && too_large > 0, "too little was compared");
     println!(
-        "tokens: {} sources, {} tokens, {larger_digit} refused with 30, {too_large} with 31: all as the model's",
-        compare.sources, compare.tokens
+        "tokens: {} sources, {} tokens, {} changed by a letter behind a run, {larger_digit} refused with 30, {too_large} with 31: \
+         all as the model's",
+        compare.sources, compare.tokens, compare.lettered
     );
     #[cfg(original)]
     println!("original, tokens: {}", compare.asked.words());
@@ -85,7 +93,11 @@ fn tokens_and_words(rules: Rules, long: bool) {
     let mut compare = tokens::Compare::new(rules, laqhoncu::token_read);
     compare.calls();
     compare.met.assert(&[1, 2, 30, 31, 42]);
-    println!("token reads: {} calls, at and beyond the end, sources too long or not ASCII: all as the model's", compare.tokens);
+    println!(
+        "token reads: {} calls, {} changed by a letter behind a run, at and beyond the end, sources too long or not ASCII: \
+         all as the model's",
+        compare.tokens, compare.lettered
+    );
     #[cfg(original)]
     println!("original, token reads: {}", compare.asked.words());
 
@@ -104,11 +116,12 @@ fn reads(rules: Rules, long: bool) {
     assert!(count.sources > if long { 5_000_000 } else { 300_000 } && count.accepted > 100_000, "too little was compared");
     compare.met.assert(&numbers);
     println!(
-        "full reads: {} sources, {} accepted with {} bytes of listings, {} refused with 60, the others with each of {} numbers: \
-         all as the model's",
+        "full reads: {} sources, {} accepted with {} bytes of listings, {} changed by a letter behind a run, {} refused with 60, \
+         the others with each of {} numbers: all as the model's",
         count.sources,
         count.accepted,
         count.records_bytes,
+        count.lettered,
         compare.met.times(60),
         numbers.iter().filter(|number| **number != 60).count()
     );
@@ -121,9 +134,11 @@ fn reads(rules: Rules, long: bool) {
     compare.met.assert(&numbers);
     compare.met.assert(&[42]);
     println!(
-        "statement reads: {} calls, {} statements, {} refused with 60, {} times none left: all as the model's",
+        "statement reads: {} calls, {} statements, {} changed by a letter behind a run, {} refused with 60, {} times none left: \
+         all as the model's",
         compare.reads,
         compare.written,
+        compare.lettered,
         compare.met.times(60),
         compare.none_left
     );
@@ -132,7 +147,7 @@ fn reads(rules: Rules, long: bool) {
 }
 
 fn patches(rules: Rules, long: bool) {
-    let count = patches::compare(rules, if long { 1_100_000 } else { 110_000 }, patch);
+    let count = patches::compare(rules, if long { 1_250_000 } else { 125_000 }, patch);
     assert!(count.calls > 100_000 && count.accepted > 10_000, "too little was compared");
     assert!(count.replaced_foreign > 1000 && count.too_long > 100 && count.old_listings > 1000, "too little was compared");
     // A new line that is refused with 34 is refused with 40 before.
@@ -150,6 +165,10 @@ fn patches(rules: Rules, long: bool) {
         count.foreign, count.replaced_foreign, count.too_long
     );
     println!("patches with a listing from before 60: {} calls, the old lines not read again", count.old_listings);
+    println!(
+        "patches with a letter behind a run: {} calls that it changes, {} of them with a listing from before",
+        count.lettered, count.suffix_listings
+    );
     #[cfg(original)]
     println!("original, sources of patches: {}", count.asked.words());
     let (calls, refused) = patches::damaged(rules, patch);

@@ -42,7 +42,8 @@ fn main() {
     let folder = env::args().nth(1).expect("the folder of the crate");
     let folder = Path::new(&folder);
     let row = |source: Vec<u8>, said: &str| format!("row {} ({})", list(source), answer(said));
-    let mut rows: Vec<String> = recorded::entries(recorded::READS).map(|(source, said)| row(source, said)).collect();
+    let reads = recorded::entries(recorded::READS).chain(recorded::entries(recorded::RESPELLED_READS));
+    let mut rows: Vec<String> = reads.map(|(source, said)| row(source, said)).collect();
     let samples = samples::samples();
     rows.extend(samples.into_iter().filter(|(source, _)| source.len() < LONG).map(|(source, said)| row(source, &said)));
     fs::create_dir_all(folder.join("specs")).unwrap();

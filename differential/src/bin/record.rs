@@ -1,38 +1,26 @@
 //! Writes the recorded answers from the original: `cargo run --release --bin record`, in this folder. Sources on which a request parts from
-//! the original are left out; the limits 3 and 5 are the model's.
+//! the original are left out, unless they are spelled otherwise; the limits 3 and 5 are the model's.
 #[cfg(original)]
 fn main() {
-    use differential::departures::left_out_tokens;
-    use differential::recorded::{escaped, from_original, names_of, read_of, read_sources, token_sources, tokens_of};
-    use differential::{original, words};
+    use differential::recorded::*;
+    use differential::words;
     use std::fs::write;
 
-    let mut list = String::new();
-    for source in token_sources() {
-        if left_out_tokens(std::str::from_utf8(&source).unwrap()) {
-            continue;
-        }
-        let said = tokens_of(&source, &mut |s, place| original::token_at(std::str::from_utf8(s).unwrap(), place));
-        list += &format!("{}\t{said}\n", escaped(&source));
-    }
-    write("recorded/tokens.txt", list).unwrap();
+    let file = |name: &str, sources: Vec<Vec<u8>>, answer: fn(&[u8]) -> Option<String>| {
+        let line = |source: &Vec<u8>| answer(source).map(|said| format!("{}\t{said}\n", escaped(source)));
+        write(format!("recorded/{name}.txt"), sources.iter().filter_map(line).collect::<String>()).unwrap();
+    };
+    file("tokens", token_sources(), tokens_from_original);
+    file("respelled_tokens", token_sources(), tokens_from_original_respelled);
+    file("reads", read_sources(), |source| Some(read_of(&from_original(source)?)));
+    file("respelled_reads", read_sources(), |source| Some(read_of(&from_original_respelled(source)?)));
 
-    let mut list = String::new();
+    let mut list = Vec::new();
     for word in words::original_spellings().into_iter().chain(words::OTHERS) {
-        for word in [word.to_string(), word.to_uppercase(), format!("{word}x"), word[1..].to_string(), format!("{word}.x")] {
-            let said = names_of(word.as_bytes(), &mut |w| words::original(std::str::from_utf8(w).unwrap()));
-            list += &format!("{}\t{said}\n", escaped(word.as_bytes()));
-        }
+        let more = [word.to_string(), word.to_uppercase(), format!("{word}x"), word[1..].to_string(), format!("{word}.x")];
+        list.extend(more.map(String::into_bytes));
     }
-    write("recorded/words.txt", list).unwrap();
-
-    let mut list = String::new();
-    for source in read_sources() {
-        if let Some(answer) = from_original(&source) {
-            list += &format!("{}\t{}\n", escaped(&source), read_of(&answer));
-        }
-    }
-    write("recorded/reads.txt", list).unwrap();
+    file("words", list, |word| Some(names_of(word, &mut |word| words::original(std::str::from_utf8(word).unwrap()))));
 }
 
 #[cfg(not(original))]

@@ -29,15 +29,23 @@ pub struct Rules {
     pub counts_fit: bool,
     /// "After its first character a name may hold a dot." Document 02, Ask 2.
     pub dots_in_names: bool,
+    /// "an o, O, h or H directly after the run is looked at first, and the run then stays whole". Document 02, Ask 4.
+    pub letter_first: bool,
 }
 
 impl Rules {
     /// What the original does, with its panics as 30 to 34.
-    pub const ORIGINAL: Self = Self { depth: usize::MAX, nesting: usize::MAX, counts_fit: false, dots_in_names: false };
+    pub const ORIGINAL: Self =
+        Self { depth: usize::MAX, nesting: usize::MAX, counts_fit: false, dots_in_names: false, letter_first: false };
     /// Document 01.
     pub const BASE: Self = Self { depth: 32, nesting: 16, ..Self::ORIGINAL };
     /// Documents 01 and 02, as far as they are followed.
-    pub const NOW: Self = Self { counts_fit: true, dots_in_names: true, ..Self::BASE };
+    pub const NOW: Self = Self { counts_fit: true, dots_in_names: true, letter_first: true, ..Self::BASE };
+
+    /// The same without document 02's Ask 4.
+    pub fn suffix_first(self) -> Self {
+        Self { letter_first: false, ..self }
+    }
 
     /// The token read: 42, 1 and 2 come before the token.
     pub fn token_read(&self, source: &[u8], place: usize) -> Result<Token, Refusal> {

@@ -56,15 +56,20 @@ impl Rules {
             };
         }
         // "Otherwise take the run of hexadecimal digits. If its last character is b, B, d or D, that is the suffix and leaves the run. Else
-        // a following o, O, h or H is taken as suffix. Else the base is 10."
+        // a following o, O, h or H is taken as suffix. Else the base is 10." Document 02, Ask 4, exchanges the two tests.
         let whole = digits_of(16, text);
-        let (digits, base, length) = match (text[whole - 1], text.get(whole)) {
-            (b'b' | b'B', _) => (whole - 1, 2, whole),
-            (b'd' | b'D', _) => (whole - 1, 10, whole),
-            (_, Some(b'o' | b'O')) => (whole, 8, whole + 1),
-            (_, Some(b'h' | b'H')) => (whole, 16, whole + 1),
-            _ => (whole, 10, whole),
+        let letter = match text.get(whole) {
+            Some(b'o' | b'O') => Some((whole, 8, whole + 1)),
+            Some(b'h' | b'H') => Some((whole, 16, whole + 1)),
+            _ => None,
         };
+        let suffix = match text[whole - 1] {
+            b'b' | b'B' => Some((whole - 1, 2, whole)),
+            b'd' | b'D' => Some((whole - 1, 10, whole)),
+            _ => None,
+        };
+        let found = if self.letter_first { letter.or(suffix) } else { suffix.or(letter) };
+        let (digits, base, length) = found.unwrap_or((whole, 10, whole));
         // "Binary with a character above `1` is refusal 30", at the "run with suffix".
         if base == 2 && text[..digits].iter().any(|byte| *byte > b'1') {
             return Err((30, length));
