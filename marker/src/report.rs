@@ -170,6 +170,11 @@ mod tests {
         refusal("f", source.as_bytes(), 1, &listing(source.as_bytes()).unwrap_err())
     }
 
+    /// Its first line.
+    fn words(source: &str) -> String {
+        said(source).lines().next().unwrap().to_string()
+    }
+
     #[test]
     fn a_mark_under_the_place() {
         assert_eq!(said("nop\n\tdw 1, 12b, 2\n"), "f:2:8: a binary number has a digit above 1\n    \tdw 1, 12b, 2\n    \t      ^^^\n");
@@ -199,7 +204,7 @@ mod tests {
 
     #[test]
     fn a_number_that_does_not_fit() {
-        let words = |source: &str| said(source).lines().next().unwrap().split_once(": ").unwrap().1.to_string();
+        let words = |source: &str| words(source).split_once(": ").unwrap().1.to_string();
         assert_eq!(words("db 256"), "the number is 256, and `db` takes at most 255");
         assert_eq!(words("dw 1\n; dw 2\ntimes 2\n dB 'dw' ,, 100h dw 3"), "the number is 256, and `db` takes at most 255");
         assert_eq!(words("db 1\nw: DW 65536"), "the number is 65,536, and `dw` takes at most 65,535");
@@ -208,7 +213,6 @@ mod tests {
 
     #[test]
     fn a_dot_that_is_no_part_of_a_name() {
-        let words = |source: &str| said(source).lines().next().unwrap().to_string();
         let hint = "outside quotes a dot stands only in a name, behind its first character";
         assert_eq!(words("nop\nw12 .a equ 5"), format!("f:2:5: an instruction is expected; {hint}"));
         assert_eq!(words("dw 1.5"), format!("f:1:5: a number or a quoted text is expected; {hint}"));
@@ -218,7 +222,6 @@ mod tests {
 
     #[test]
     fn a_hexadecimal_number_whose_digits_are_a_prefix() {
-        let words = |source: &str| said(source).lines().next().unwrap().to_string();
         let hint = |prefix: &str, meant: &str| format!("`{prefix}` is a prefix: the hexadecimal number is written `{meant}`");
         assert_eq!(words("nop\ndb 0dh,0ah"), format!("f:2:5: a number or a quoted text is expected; {}", hint("0d", "00dh")));
         assert_eq!(words("dw 1,0b8H"), format!("f:1:7: a number or a quoted text is expected; {}", hint("0b", "00b8H")));
@@ -234,7 +237,6 @@ mod tests {
 
     #[test]
     fn a_digit_that_begins_no_number() {
-        let words = |source: &str| said(source).lines().next().unwrap().to_string();
         let hint = "this number has digits that its base doesn't have, or is above 2,147,483,647";
         assert_eq!(words("equ 2147483648"), format!("f:1:5: a value or an operand is expected; {hint}"));
         assert_eq!(words("dw 1,1bo"), format!("f:1:6: a number or a quoted text is expected; {hint}"));

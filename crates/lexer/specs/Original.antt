@@ -17,7 +17,7 @@ originalToken s = tokenWith isPlainPart lastFirst s
 unfoldable pub changes : List ℕ → Bool
 changes s = dotFollows s || letterFollows s
 
--- EVERY OTHER TOKEN IS THE ORIGINAL'S; and of these only what is Invalid by both.
+-- EVERY OTHER TOKEN IS THE ORIGINAL'S; of those that `changes` finds, only one that is Invalid by both.
 pub record TokensOfOriginal : Type 0 where
   pub others : (s : List ℕ) → changes s ≡ false → tokenAt s ≡ originalToken s
   pub changed : (s : List ℕ) → changes s ≡ true → tokenAt s ≡ originalToken s → tokenAt s ≡ stray (getD s 0 0)

@@ -26,7 +26,7 @@ pub record ReadAsOriginal (table : List ℕ) : Type 0 where
       → Alike (fitting table) (tokensFrom p 0 (drop p source)) (statementCall (fitting table) source p room)
       (statementBy originalToken (cutting table) source p room)
 
--- OF THESE CAUSES THE DOTS WERE REFUSED ALL: document 01's reading refuses a source in which a dot follows a name directly.
+-- A DOT DIRECTLY BEHIND A NAME WAS ALWAYS REFUSED: document 01's reading refuses every source that has one, however long the buffer.
 pub record DotsRefusedByOriginal (profile : Profile) : Type 0 where
   pub ofFullRead : (source : List ℕ) (room : ℕ) → somewhere originalToken dotFollows 0 source ≡ true
       → (r : Refusal) × (fullBy originalToken profile source room ≡ refuses r)
