@@ -2,19 +2,23 @@
 
 pub mod answer;
 #[cfg(original)]
+pub mod beside;
+pub mod compare;
+#[cfg(original)]
 pub mod departures;
-pub mod known;
+pub mod escapes;
+pub mod known_patches;
 pub mod lent;
+pub mod listings;
 pub mod model;
 #[cfg(original)]
 pub mod original;
-pub mod patched;
-pub mod patches;
-pub mod reads;
+pub mod patch_call;
 pub mod recorded;
+#[cfg(original)]
+pub mod recording;
+#[cfg(original)]
+pub mod respelled;
 pub mod samples;
 pub mod sources;
 pub mod timing;
-pub mod tokens;
-pub mod values;
-pub mod words;

@@ -1,5 +1,7 @@
-//! What the rules themselves say of sources: their samples, the limits that are not the original's, and where document 02 parts from
-//! document 01.
+//! What the rules themselves say of sources: their samples, the limits that are not the original's, and where they part from
+//! the base rules (RULES 14).
+use crate::answer::Answer;
+use laqhoncu::Refusal;
 
 /// Sources and answers, each answer on one line as in the recorded ones; a listing may take 65,536 bytes.
 pub fn samples() -> Vec<(Vec<u8>, String)> {
@@ -41,7 +43,12 @@ pub fn samples() -> Vec<(Vec<u8>, String)> {
     list
 }
 
-/// Document 02, Ask 1: numbers at the edges of `db` and `dw`, and 60 before and behind the other refusals of a line.
+/// An answer where a listing may take 65,536 bytes, as the program `listing` lends.
+pub fn in_room(answer: Answer) -> Answer {
+    answer.and_then(|listing| if listing.len() > 65536 { Err(Refusal::at(4, 0, 0)) } else { Ok(listing) })
+}
+
+/// RULES 7.6: numbers at the edges of `db` and `dw`, and 60 before and behind the other refusals of a line.
 fn wide() -> [(&'static str, &'static str); 31] {
     [
         ("db 255", "ST 0; LD 0 6 1 255; END 2"),
@@ -83,7 +90,7 @@ fn wide() -> [(&'static str, &'static str); 31] {
     ]
 }
 
-/// Document 02, Ask 2: dots in names, and dots that start a token.
+/// RULES 2.3: dots in names, and dots that start a token.
 fn dotted() -> [(&'static str, &'static str); 50] {
     [
         ("w12.a equ 5", "ST 0; LL 0 5; ST 6; VC 10 11 5; LC 6 11; END 5"),
@@ -145,8 +152,8 @@ fn dotted() -> [(&'static str, &'static str); 50] {
     ]
 }
 
-/// Document 02, Ask 4: o or h behind a run that ends in b or d, by the rows of its table; prefixes, which keep their rule; and what follows from
-/// it for the other statements.
+/// RULES 2.5: o or h behind a run that ends in b or d, by the rows of the table in docs/DIFFERENCES.md; prefixes, which keep their rule;
+/// and what follows from it for the other statements.
 fn lettered() -> [(&'static str, &'static str); 66] {
     [
         // 0s and 1s and a last b

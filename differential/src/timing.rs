@@ -1,4 +1,4 @@
-//! Times two things side by side.
+//! Times two things in turn: the best and the median of so many rounds of each.
 use std::hint::black_box;
 use std::time::Instant;
 

@@ -1,10 +1,14 @@
 //! The original: the model of it says the same, the rules part from it where they are said to, and docs/DIFFERENCES.md is right about it.
 #![cfg(original)]
-use differential::answer::shown;
-use differential::departures::{left_out, left_out_statement, left_out_tokens, respelled, Asked, Why};
+use differential::beside::Asked;
+use differential::compare::on_a_large_stack;
+use differential::departures::{left_out, left_out_statement, left_out_tokens, Why};
+use differential::escapes::escaped;
+use differential::listings::one_line;
 use differential::model::Rules;
-use differential::reads::on_a_large_stack;
-use differential::{original, recorded, sources, words};
+use differential::respelled::respelled;
+use differential::sources::words;
+use differential::{original, recorded, recording, sources};
 use laqhoncu::TokenKind;
 use mrc_compiler::ast::Operator;
 use mrc_compiler::parser::Parser;
@@ -12,8 +16,8 @@ use std::hint::black_box;
 
 #[test]
 fn spellings_of_the_original() {
-    let mut spellings = words::original_spellings();
-    let mut operations: Vec<u8> = spellings.iter().map(|word| words::original(word).operation.unwrap()).collect();
+    let mut spellings = original::spellings();
+    let mut operations: Vec<u8> = spellings.iter().map(|word| original::named(word).operation.unwrap()).collect();
     operations.sort();
     operations.dedup();
     assert_eq!((spellings.len(), operations.len(), operations[98]), (117, 99, 98));
@@ -294,14 +298,14 @@ fn token_ahead() {
 fn differences_from_the_manual() {
     let unknown = ["sal", "repe", "repz", "xlat", "movs", "cmps", "scas", "lods", "stos", "seg", "segment"];
     for word in unknown {
-        assert_eq!(words::original(word).operation, None, "{word}");
+        assert_eq!(original::named(word).operation, None, "{word}");
     }
     let not_the_manuals = ["ssb", "int1", "salc", "int3", "xlatb", "cmpsb", "cmpsw", "scasb", "scasw", "lodsb", "lodsw", "stosb", "stosw"];
     let numbers = [20, 82, 98, 83, 6, 50, 51, 52, 53, 54, 55, 56, 57];
     for (word, number) in not_the_manuals.into_iter().zip(numbers) {
-        assert_eq!(words::original(word).operation, Some(number), "{word}");
+        assert_eq!(original::named(word).operation, Some(number), "{word}");
     }
-    assert_eq!(words::original("sbb").operation, words::original("ssb").operation);
+    assert_eq!(original::named("sbb").operation, original::named("ssb").operation);
     // Every word of the manual's list but those above, a space between two.
     let manual = "aaa aad aam aas adc add and call cbw clc cld cli cmc cmp cwd daa das dec div esc hlt idiv imul in inc int into \
         iret ja jnbe jae jnb jb jnae jbe jna jc jcxz je jz jg jnle jge jnl jl jnge jle jng jmp jnc jne jnz jno jnp jpo jns jo jp \
@@ -309,28 +313,28 @@ fn differences_from_the_manual() {
         rcl rcr rep repne repnz ret rol ror sahf sar sbb shl shr stc std sti sub test wait xchg xor";
     let mut known: Vec<&str> = manual.split_whitespace().collect();
     for word in &known {
-        assert_ne!(words::original(word).operation, None, "{word}");
+        assert_ne!(original::named(word).operation, None, "{word}");
     }
     assert_eq!(known.len(), 104);
     known.extend(not_the_manuals);
     known.sort();
-    let mut spellings = words::original_spellings();
+    let mut spellings = original::spellings();
     spellings.sort();
     assert_eq!(known, spellings);
     // `lock` is read as an instruction of its own: what follows it is its operand.
     for (source, expected) in [
-        ("lock", "ST 0;LI 0 4 96 0 4 4;END 2"),
+        ("lock", "ST 0; LI 0 4 96 0 4 4; END 2"),
         ("lock xchg ax,bx", "REF 11 10 12 255 255"),
-        ("lock\nxchg ax,bx", "ST 0;LI 0 4 96 0 4 4;ST 5;OR 10 12 8;OR 13 15 11;LI 5 15 3 2 10 15;END 6"),
+        ("lock\nxchg ax,bx", "ST 0; LI 0 4 96 0 4 4; ST 5; OR 10 12 8; OR 13 15 11; LI 5 15 3 2 10 15; END 6"),
         ("sal ax,1", "REF 20 6 7 255 255"),
-        ("repe cmpsb", "ST 0;LL 0 4;ST 5;LI 5 10 50 0 10 10;END 4"),
-        ("xlat", "ST 0;LL 0 4;END 2"),
-        ("movs", "ST 0;LL 0 4;END 2"),
+        ("repe cmpsb", "ST 0; LL 0 4; ST 5; LI 5 10 50 0 10 10; END 4"),
+        ("xlat", "ST 0; LL 0 4; END 2"),
+        ("movs", "ST 0; LL 0 4; END 2"),
         // `rep` and `repne` need no line end, and what follows is a statement of its own.
-        ("rep movsb", "ST 0;LI 0 3 46 0 3 3;ST 4;LI 4 9 48 0 9 9;END 4"),
-        ("repne scasb", "ST 0;LI 0 5 47 0 5 5;ST 6;LI 6 11 52 0 11 11;END 4"),
+        ("rep movsb", "ST 0; LI 0 3 46 0 3 3; ST 4; LI 4 9 48 0 9 9; END 4"),
+        ("repne scasb", "ST 0; LI 0 5 47 0 5 5; ST 6; LI 6 11 52 0 11 11; END 4"),
     ] {
-        let said = shown(&original::read(source.as_bytes())).trim_end().replace('\n', ";");
+        let said = one_line(&original::read(source));
         assert_eq!(said, expected, "{source:?}");
     }
 }
@@ -349,11 +353,11 @@ fn differences_from_the_original() {
     read_whole(&format!("{}a", "times 1 ".repeat(100)));
     // 60: it takes the low bytes of a number that is too wide.
     for (source, expected) in [
-        ("dw 70000", "ST 0;LD 0 8 2 112 17;END 2"),
-        ("db 256", "ST 0;LD 0 6 1 0;END 2"),
-        ("times 2 dw 0x10000", "ST 0;VC 6 7 2;LD 8 18 2 0 0;LT 0 0;END 4"),
+        ("dw 70000", "ST 0; LD 0 8 2 112 17; END 2"),
+        ("db 256", "ST 0; LD 0 6 1 0; END 2"),
+        ("times 2 dw 0x10000", "ST 0; VC 6 7 2; LD 8 18 2 0 0; LT 0 0; END 4"),
     ] {
-        assert_eq!(shown(&original::read(source.as_bytes())).trim_end().replace('\n', ";"), expected);
+        assert_eq!(one_line(&original::read(source)), expected);
     }
     // A dot behind a name is a token of its own, which no statement takes; here it belongs to the name.
     let kinds: Vec<TokenKind> = original::tokens("w12.a").0.iter().map(|placed| original::kind_of(&placed.token)).collect();
@@ -371,8 +375,8 @@ fn differences_from_the_original() {
         ("times a.b", "REF 20 7 8 255 255", "REF 34 0 5 255 255"),
         ("times 2 a.", "REF 20 9 10 255 255", "ST 0; VC 6 7 2; LL 8 10; LT 0 0; END 4"),
     ] {
-        assert_eq!(recorded::read_of(&original::read(source.as_bytes())), there, "{source:?}");
-        assert_eq!(recorded::read_of(&Rules::NOW.full_read(source.as_bytes())), here, "{source:?}");
+        assert_eq!(one_line(&original::read(source)), there, "{source:?}");
+        assert_eq!(one_line(&Rules::NOW.full_read(source.as_bytes())), here, "{source:?}");
     }
     // It looks at a last b or d of a run before it looks at a letter behind; here the letter comes first.
     let accepted = "ST 0; VC 6 8 1; LI 8 11 93 0 11 11; LT 0 0; END 4";
@@ -399,13 +403,13 @@ fn differences_from_the_original() {
         ("db 0dh,0ah", "REF 15 4 6 255 255", "REF 15 4 6 255 255"),
         ("times 0dh", "ST 0; VC 6 7 0; LL 7 9; LT 0 0; END 4", "ST 0; VC 6 7 0; LL 7 9; LT 0 0; END 4"),
     ] {
-        assert_eq!(recorded::read_of(&original::read(source.as_bytes())), there, "{source:?}");
-        assert_eq!(recorded::read_of(&Rules::NOW.full_read(source.as_bytes())), here, "{source:?}");
+        assert_eq!(one_line(&original::read(source)), there, "{source:?}");
+        assert_eq!(one_line(&Rules::NOW.full_read(source.as_bytes())), here, "{source:?}");
     }
     // 30 to 34 stand for its panics, and for nothing else.
     for (number, source) in [(30, "dw 12b"), (31, "equ 0x80000000"), (32, "mov ax,[es:]"), (33, "mov ax,[si+di]"), (34, "times 2")] {
         assert!(original::caught(|| Parser::new(source).parse_line().is_ok()).is_err(), "{source:?} is no panic");
-        assert_eq!(original::read(source.as_bytes()).unwrap_err().number, number, "{source:?}");
+        assert_eq!(original::read(source).unwrap_err().number, number, "{source:?}");
     }
     let error = Parser::new("db ,,").parse_line().unwrap_err();
     assert!(error.to_string().contains(' '), "no sentence: {error}");
@@ -437,23 +441,23 @@ fn evaluate_of_the_original() {
 fn recorded_answers() {
     let text = |bytes: &[u8]| String::from_utf8(bytes.to_vec()).unwrap();
     for (source, expected) in recorded::entries(recorded::TOKENS) {
-        let said = recorded::tokens_from_original(&source).expect("no source on which a request parts from the original is recorded");
-        assert_eq!(said, expected, "{}", recorded::escaped(&source));
+        let said = recording::tokens_from_original(&source).expect("no source on which a request parts from the original is recorded");
+        assert_eq!(said, expected, "{}", escaped(&source));
     }
     for (source, expected) in recorded::entries(recorded::RESPELLED_TOKENS) {
-        let said = recorded::tokens_from_original_respelled(&source).expect("a run with another spelling");
-        assert_eq!(said, expected, "{}", recorded::escaped(&source));
+        let said = recording::tokens_from_original_respelled(&source).expect("a run with another spelling");
+        assert_eq!(said, expected, "{}", escaped(&source));
     }
     for (source, expected) in recorded::entries(recorded::RESPELLED_READS) {
-        let said = recorded::from_original_respelled(&source).expect("a run with another spelling");
-        assert_eq!(recorded::read_of(&said), expected, "{}", recorded::escaped(&source));
+        let said = recording::from_original_respelled(&source).expect("a run with another spelling");
+        assert_eq!(one_line(&said), expected, "{}", escaped(&source));
     }
     for (word, expected) in recorded::entries(recorded::WORDS) {
-        let said = recorded::names_of(&word, &mut |word| words::original(&text(word)));
-        assert_eq!(said, expected, "{}", recorded::escaped(&word));
+        let said = recorded::names_of(&word, &mut |word| original::named(&text(word)));
+        assert_eq!(said, expected, "{}", escaped(&word));
     }
     for (source, expected) in recorded::entries(recorded::READS) {
-        let said = recorded::from_original(&source).expect("no source on which a request parts from the original is recorded");
-        assert_eq!(recorded::read_of(&said), expected, "{}", recorded::escaped(&source));
+        let said = recording::from_original(&source).expect("no source on which a request parts from the original is recorded");
+        assert_eq!(one_line(&said), expected, "{}", escaped(&source));
     }
 }

@@ -1,4 +1,4 @@
-//! Two builds of the library, timed in turn on the same inputs in one run; both must give the same counts, listings and patches.
+//! Two builds of the library, timed in turn on the same inputs in one run; both must give the same counts, listings, statements and patches.
 //! `differential/against` makes shared objects of the two and calls this: OTHER THIS ROUNDS.
 use differential::sources;
 use differential::timing::in_turn;
@@ -21,6 +21,15 @@ struct FullReading {
 
 #[repr(C)]
 #[derive(Clone, Copy, Debug, PartialEq)]
+struct StatementReading {
+    refusal: [u32; 5],
+    found: u8,
+    length: u32,
+    ahead: u32,
+}
+
+#[repr(C)]
+#[derive(Clone, Copy, Debug, PartialEq)]
 struct Patching {
     refusal: [u32; 5],
     source: usize,
@@ -29,12 +38,14 @@ struct Patching {
 
 type Count = unsafe extern "C" fn(*const u8, usize) -> usize;
 type FullRead = unsafe extern "C" fn(*const u8, usize, *mut u8, usize) -> FullReading;
+type StatementRead = unsafe extern "C" fn(*const u8, usize, usize, *mut u8, usize) -> StatementReading;
 #[rustfmt::skip]
 type Patch = unsafe extern "C" fn(*const u8, usize, *const u8, usize, usize, *const u8, usize, *mut u8, usize, *mut u8, usize) -> Patching;
 
 struct Library {
     count: Count,
     full_read: FullRead,
+    statement_read: StatementRead,
     patch: Patch,
 }
 
@@ -53,6 +64,7 @@ impl Library {
             Self {
                 count: transmute_copy(&symbol("laqhoncu_count")),
                 full_read: transmute_copy(&symbol("laqhoncu_full_read")),
+                statement_read: transmute_copy(&symbol("laqhoncu_statement_read")),
                 patch: transmute_copy(&symbol("laqhoncu_patch")),
             }
         }
@@ -64,6 +76,20 @@ impl Library {
 
     fn full_read(&self, source: &[u8], out: &mut [u8]) -> FullReading {
         unsafe { (self.full_read)(source.as_ptr(), source.len(), out.as_mut_ptr(), out.len()) }
+    }
+
+    /// Every statement, one call after the other; how many bytes their records have.
+    fn statements(&self, source: &[u8], out: &mut [u8]) -> usize {
+        let (mut place, mut written) = (0, 0);
+        loop {
+            let rest = &mut out[written..];
+            let said = unsafe { (self.statement_read)(source.as_ptr(), source.len(), place, rest.as_mut_ptr(), rest.len()) };
+            assert_eq!(said.refusal[0], 0, "a statement is refused");
+            if said.found == 0 {
+                return written;
+            }
+            (place, written) = (said.ahead as usize, written + said.length as usize);
+        }
     }
 
     fn patch(&self, old: &[u8], listing: &[u8], place: usize, new: &[u8], source: &mut [u8], out: &mut [u8]) -> Patching {
@@ -116,6 +142,23 @@ fn main() {
         let (a, b) = in_turn(rounds, || other.full_read(black_box(source), &mut again), || this.full_read(black_box(source), &mut buffer));
         let speed = |seconds: f64| source.len() as f64 / seconds / 1e6;
         row(title, "full read", "MB/s", [a.best, a.median, b.best, b.median].map(speed), b.best / a.best);
+    }
+    for (title, text) in &inputs {
+        // Each call tests the whole source: a short one, so that the time goes into the statements.
+        let source = &text.as_bytes()[..text[..1024].rfind('\n').unwrap() + 1];
+        let length = this.full_read(source, &mut again).length as usize;
+        for (library, which) in [(&other, "other"), (&this, "this")] {
+            assert_eq!(library.statements(source, &mut buffer), length, "{title}: statements of the {which} build");
+            assert!(buffer[..length] == again[..length], "{title}: statements of the {which} build");
+        }
+        let turns = 64;
+        let (a, b) = in_turn(
+            rounds,
+            || (0..turns).for_each(|_| assert_eq!(other.statements(black_box(source), &mut again), length)),
+            || (0..turns).for_each(|_| assert_eq!(this.statements(black_box(source), &mut buffer), length)),
+        );
+        let speed = |seconds: f64| (turns * source.len()) as f64 / seconds / 1e6;
+        row(title, "statement", "MB/s", [a.best, a.median, b.best, b.median].map(speed), b.best / a.best);
     }
     for (title, text) in &inputs {
         let source = &text.as_bytes()[..text[..65000].rfind('\n').unwrap() + 1];

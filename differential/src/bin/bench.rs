@@ -1,5 +1,8 @@
 //! Speed, ours beside the original's, on the same inputs in the same run: `cargo run --release --bin bench [ROUNDS]`.
 //! The two take turns; the best round of each counts, and the median is shown beside it.
+#[cfg(original)]
+use differential::compare::full_reads::Plain;
+
 #[cfg(not(original))]
 fn main() {
     panic!("the original's sources are not there (MRC_SOURCE)");
@@ -89,11 +92,17 @@ fn main() {
         for length in [1024, 8192, 65536] {
             let text = make(length);
             let turns = 65536 / length;
-            let (ours, original) = in_turn(rounds, full_reads(&text, turns, &mut buffer), || {
+            let (ours, original) = in_turn(rounds, full_reads(laqhoncu::full_read, &text, turns, &mut buffer), || {
                 for _ in 0..turns {
                     parse(&text);
                 }
             });
+            let mut again = vec![0; 18 * 65536];
+            let (fast, lean) = in_turn(
+                rounds,
+                full_reads(laqhoncu::full_read, &text, turns, &mut buffer),
+                full_reads(laqhoncu::full_read_lean, &text, turns, &mut again),
+            );
             let speed = |seconds: f64| (text.len() * turns) as f64 / seconds / 1e6;
             println!(
                 "  {title}, {:5} bytes: ours {:6.1} MB/s (median {:6.1}), original {:6.1} MB/s (median {:6.1}), ratio {:.2}",
@@ -103,6 +112,14 @@ fn main() {
                 speed(original.best),
                 speed(original.median),
                 original.best / ours.best
+            );
+            println!(
+                "    beside the lean one: ours {:6.1} MB/s (median {:6.1}), lean {:6.1} MB/s (median {:6.1}), ratio {:.2}",
+                speed(fast.best),
+                speed(fast.median),
+                speed(lean.best),
+                speed(lean.median),
+                fast.best / lean.best
             );
         }
     }
@@ -146,7 +163,7 @@ fn main() {
     for length in [1024, 2048, 4096, 8192, 16384, 32768, 65536] {
         let text = sources::marker_lines(length);
         let turns = 65536 / length;
-        let (ours, _) = in_turn(rounds, full_reads(&text, turns, &mut buffer), || {});
+        let (ours, _) = in_turn(rounds, full_reads(laqhoncu::full_read, &text, turns, &mut buffer), || {});
         println!("  {:5} bytes: {:.2} ns a byte", text.len(), ours.best / (text.len() * turns) as f64 * 1e9);
     }
     println!("\ntime by depth of expressions, lines of `equ ((1))` up to 64 KiB");
@@ -154,7 +171,7 @@ fn main() {
         let (open, close) = ("(".repeat(depth - 1), ")".repeat(depth - 1));
         let line = format!("equ {open}1{close}\n");
         let text = line.repeat(65536 / line.len());
-        let (ours, original) = in_turn(rounds, full_reads(&text, 1, &mut buffer), || parse(&text));
+        let (ours, original) = in_turn(rounds, full_reads(laqhoncu::full_read, &text, 1, &mut buffer), || parse(&text));
         let share = |seconds: f64| seconds / text.len() as f64 * 1e9;
         println!("  depth {depth:2}: ours {:.2} ns a byte, original {:.2}", share(ours.best), share(original.best));
     }
@@ -162,10 +179,10 @@ fn main() {
 
 /// Reads a source so many times; it has to be accepted.
 #[cfg(original)]
-fn full_reads<'a>(text: &'a str, turns: usize, buffer: &'a mut [u8]) -> impl FnMut() + 'a {
+fn full_reads<'a>(read: Plain, text: &'a str, turns: usize, buffer: &'a mut [u8]) -> impl FnMut() + 'a {
     move || {
         for _ in 0..turns {
-            let length = laqhoncu::full_read(std::hint::black_box(text.as_bytes()), buffer);
+            let length = read(std::hint::black_box(text.as_bytes()), buffer);
             assert!(std::hint::black_box(length).is_ok());
         }
     }

@@ -1,11 +1,13 @@
 //! Compares the proved library with the model of its rules, and, where the original is there, the model with the original; and the library
-//! with recorded answers. Ends with a panic at the first difference. `--long` takes more sources. `--base` compares with document 01 alone,
-//! for a library from before document 02; `--suffix-first` with the rules without its Ask 4.
+//! with recorded answers. Ends with a panic at the first difference. `--long` takes more sources. `--base` compares with the base rules
+//! (RULES 14), for a library of those; `--suffix-first` with the rules, but numbers by RULES 14.2.
 use differential::answer::Named;
+use differential::compare::{evaluate, full_reads, on_a_large_stack, patches, statement_reads, tokens, words};
+use differential::escapes::escaped;
+use differential::listings::one_line;
 use differential::model::Rules;
-use differential::patched::Call;
-use differential::reads::{self, on_a_large_stack};
-use differential::{known, patches, recorded, tokens, values, words};
+use differential::patch_call::Call;
+use differential::{known_patches, recorded};
 use laqhoncu::{Patched, Refusal};
 
 fn patch(call: &Call, source: &mut [u8], listing: &mut [u8]) -> Result<Patched, Refusal> {
@@ -38,8 +40,8 @@ fn main() {
     if rules.letter_first {
         recorded_respelled();
     }
-    println!("known patches: {} calls, all as the rules say", known::replay(rules, patch));
-    let (values, met) = values::all(if long { 10_000_000 } else { 500_000 }, laqhoncu::evaluate);
+    println!("known patches: {} calls, all as the rules say", known_patches::replay(rules, patch));
+    let (values, met) = evaluate::all(if long { 10_000_000 } else { 500_000 }, laqhoncu::evaluate);
     assert!(met.iter().all(|count| *count > 100), "too little was compared");
     println!("evaluate: {values} calls, {} refused with 50, {} with 51: all as exact arithmetic says", met[0], met[1]);
     tokens_and_words(rules, long);
@@ -57,7 +59,7 @@ fn main() {
 fn replayed(list: &str, said: impl Fn(&[u8]) -> String) -> usize {
     let asked = recorded::entries(list).map(|(source, expected)| {
         let said = said(&source);
-        assert!(said == expected, "{:?}\nrecorded {expected}\nsaid     {said}", recorded::escaped(&source));
+        assert!(said == expected, "{:?}\nrecorded {expected}\nsaid     {said}", escaped(&source));
     });
     asked.count()
 }
@@ -65,14 +67,14 @@ fn replayed(list: &str, said: impl Fn(&[u8]) -> String) -> usize {
 fn recorded() {
     let tokens = replayed(recorded::TOKENS, |source| recorded::tokens_of(source, &mut laqhoncu::token));
     let words = replayed(recorded::WORDS, |word| recorded::names_of(word, &mut named));
-    let reads = replayed(recorded::READS, |source| recorded::read_of(&laqhoncu::listing(source)));
+    let reads = replayed(recorded::READS, |source| one_line(&laqhoncu::listing(source)));
     assert!(tokens > 1000 && words > 500 && reads > 500, "the recorded lists are short");
     println!("recorded answers: tokens of {tokens} sources, {words} words, {reads} full reads, all as recorded");
 }
 
 fn recorded_respelled() {
     let tokens = replayed(recorded::RESPELLED_TOKENS, |source| recorded::tokens_of(source, &mut laqhoncu::token));
-    let reads = replayed(recorded::RESPELLED_READS, |source| recorded::read_of(&laqhoncu::listing(source)));
+    let reads = replayed(recorded::RESPELLED_READS, |source| one_line(&laqhoncu::listing(source)));
     assert!(tokens > 300 && reads > 100, "the recorded lists are short");
     println!("recorded answers to other spellings of runs: tokens of {tokens} sources, {reads} full reads, all as recorded");
 }
@@ -110,7 +112,11 @@ fn tokens_and_words(rules: Rules, long: bool) {
 }
 
 fn reads(rules: Rules, long: bool) {
-    let mut compare = reads::Compare::new(rules, laqhoncu::full_read);
+    let mut compare = full_reads::Compare::new(rules, laqhoncu::full_read);
+    #[cfg(feature = "lean")]
+    {
+        compare = compare.beside(laqhoncu::full_read_lean);
+    }
     compare.all(if long { 10 } else { 1 });
     let (count, numbers) = (compare.count, of_reads(rules));
     assert!(count.sources > if long { 5_000_000 } else { 300_000 } && count.accepted > 100_000, "too little was compared");
@@ -125,10 +131,12 @@ fn reads(rules: Rules, long: bool) {
         compare.met.times(60),
         numbers.iter().filter(|number| **number != 60).count()
     );
+    #[cfg(feature = "lean")]
+    println!("lean full reads: {} calls, all that the full read was asked: all as the model's", count.second);
     #[cfg(original)]
     println!("original, full reads: {}", compare.asked.words());
 
-    let mut compare = reads::CompareStatements::new(rules, laqhoncu::statement_read);
+    let mut compare = statement_reads::Compare::new(rules, laqhoncu::statement_read);
     compare.all(if long { 10 } else { 1 });
     assert!(compare.reads > 300_000 && compare.written > 100_000 && compare.none_left > 1000, "too little was compared");
     compare.met.assert(&numbers);

@@ -1,4 +1,4 @@
-//! Expressions: "`+ -` bind loosest, `* /` tighter, prefix `+ -` tightest; equal levels group to the left."
+//! Expressions, RULES 5: sums of products of operands, each grouped to the left; a prefix binds closest.
 use super::reader::{refuse, Reader, Step};
 use laqhoncu::{Span, TokenKind};
 
@@ -15,13 +15,13 @@ impl Reader<'_> {
 
     /// The expression that begins at the token ahead, up to an operator that binds less than `least`.
     fn at_depth(&mut self, depth: usize, least: u8) -> Step {
-        // "expression depth 33 would begin"; "3 and 5 are given on the token ahead, before another is read".
+        // 3, at the token ahead, before another is read: RULES 5.3, 11.3.
         if depth > self.rules.depth {
             return self.refuse(3);
         }
         let from = self.place();
         match self.kind() {
-            // "Parentheses leave no record."
+            // No record of its own: RULES 5.4.
             TokenKind::Punctuation(b'(') => {
                 self.take()?;
                 self.at_depth(depth + 1, SUM)?;
@@ -30,7 +30,7 @@ impl Reader<'_> {
                 }
                 self.take()?;
             }
-            // "22 .. after the token behind the operator .. has been read".
+            // 22, once the token behind the operator is read: RULES 11.3.
             TokenKind::Punctuation(b'*' | b'/') => {
                 self.take()?;
                 return refuse(22, Span { from: 0, to: 0 });
@@ -55,7 +55,7 @@ impl Reader<'_> {
         Ok(())
     }
 
-    /// "Atoms: number, closed string of one character, name, `$`, `$$`."
+    /// An atom: RULES 5.1.
     fn atom(&mut self) -> Step {
         let span = self.span();
         match self.kind() {
@@ -73,7 +73,7 @@ impl Reader<'_> {
                 self.put(b"VL", span, &[]);
                 self.take()
             }
-            // "`$$`, whose span covers the first `$` only"
+            // The span is the first `$`, also of `$$`: RULES 5.4.
             TokenKind::Punctuation(b'$') => {
                 self.take()?;
                 if !self.is(b'$') {
@@ -88,7 +88,7 @@ impl Reader<'_> {
     }
 }
 
-/// "0 +, 1 -, 2 *, 3 /"
+/// The number of an operator: RULES 8.3.
 fn operator(sign: u8) -> u32 {
     match sign {
         b'+' => 0,

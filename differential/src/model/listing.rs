@@ -1,4 +1,4 @@
-//! The listing: "Each record opens with a two-letter mark; fields are 4 bytes, low first. Children precede parents."
+//! The listing: records of a mark and fields, RULES 8.
 
 /// Writes a mark and fields.
 pub fn put(out: &mut Vec<u8>, mark: &[u8], fields: &[u32]) {
@@ -42,7 +42,7 @@ impl<'a> Record<'a> {
         u32::from_le_bytes(self.bytes[2 + 4 * i..6 + 4 * i].try_into().unwrap())
     }
 
-    /// Writes the record with its places moved: "with ST and spans moved by q − p, LT excepted".
+    /// Writes the record with its places moved: RULES 10.5.
     fn moved(&self, by: i64, out: &mut Vec<u8>) {
         let places: &[usize] = match self.mark() {
             b"ST" => &[0],
@@ -77,8 +77,7 @@ pub fn split(listing: &[u8]) -> Vec<&[u8]> {
     records(listing).map(|record| record.unwrap().bytes).collect()
 }
 
-/// "every field in range, children present as in reverse Polish, a line record ending each statement, places strictly rising, and
-/// place ≤ f ≤ t ≤ source length except LT's"
+/// Whether bytes are a well-formed listing of a source of that length: RULES 8.5.
 pub fn well_formed(listing: &[u8], length: usize) -> bool {
     // the place of the statement, and what waits to be taken up: E expressions, O operands, L a line
     let (mut place, mut waiting) = (None, Vec::new());

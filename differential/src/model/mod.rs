@@ -1,4 +1,4 @@
-//! The rules once more, in plain Rust: what documents 01 and 02 say of tokens, words, reads, the patch and `evaluate`. Nothing of the
+//! The rules once more, in plain Rust: what RULES say of tokens, words, reads, the patch and `evaluate`. Nothing of the
 //! library or of the original is called; of the package only types are used. So the three can disagree, and the comparison sees it.
 
 mod expressions;
@@ -14,22 +14,22 @@ pub use listing::{split, well_formed};
 pub use patch::{edited, line_end, open_beside};
 pub use words::{directive, name, operation, OPERATIONS};
 
-use crate::answer::{Answer, Named};
+use crate::answer::{Answer, Named, StatementAnswer};
 use laqhoncu::{Operator, Refusal, Token};
 use reader::Reader;
 
 /// Which rules are followed.
 #[derive(Clone, Copy, Debug, PartialEq, Eq)]
 pub struct Rules {
-    /// "the outermost is 1, at most 32": 3 beyond.
+    /// The depth of expressions; beyond it 3. RULES 5.3.
     pub depth: usize,
-    /// "up to 16 deep": 5 beyond.
+    /// The nesting of `times`; beyond it 5. RULES 7.7.
     pub nesting: usize,
-    /// "In `db` a number above 255, and in `dw` a number above 65,535, must be refused": 60. Document 02, Ask 1.
+    /// A number above 255 in `db`, or above 65,535 in `dw`, is 60. RULES 7.6.
     pub counts_fit: bool,
-    /// "After its first character a name may hold a dot." Document 02, Ask 2.
+    /// A name goes on with dots too. RULES 2.3.
     pub dots_in_names: bool,
-    /// "an o, O, h or H directly after the run is looked at first, and the run then stays whole". Document 02, Ask 4.
+    /// The letter behind a run comes before its last character. RULES 2.5.
     pub letter_first: bool,
 }
 
@@ -37,12 +37,12 @@ impl Rules {
     /// What the original does, with its panics as 30 to 34.
     pub const ORIGINAL: Self =
         Self { depth: usize::MAX, nesting: usize::MAX, counts_fit: false, dots_in_names: false, letter_first: false };
-    /// Document 01.
+    /// The base rules. RULES 14.
     pub const BASE: Self = Self { depth: 32, nesting: 16, ..Self::ORIGINAL };
-    /// Documents 01 and 02, as far as they are followed.
+    /// RULES.
     pub const NOW: Self = Self { counts_fit: true, dots_in_names: true, letter_first: true, ..Self::BASE };
 
-    /// The same without document 02's Ask 4.
+    /// The same with RULES 14.2.
     pub fn suffix_first(self) -> Self {
         Self { letter_first: false, ..self }
     }
@@ -67,8 +67,8 @@ impl Rules {
         Ok(reader.out)
     }
 
-    /// The statement read, lent a long enough buffer: its records and the place of the token ahead, or that none is left.
-    pub fn statement_read(&self, source: &[u8], place: usize) -> Result<Option<(Vec<u8>, usize)>, Refusal> {
+    /// The statement read, lent a long enough buffer.
+    pub fn statement_read(&self, source: &[u8], place: usize) -> StatementAnswer {
         at_place(source, place)?;
         readable(source)?;
         let mut reader = Reader::begin(*self, source, place)?;
@@ -77,7 +77,7 @@ impl Rules {
     }
 }
 
-/// 42: "place beyond the end".
+/// 42, for a place beyond the end: RULES 9.2.
 fn at_place(source: &[u8], place: usize) -> Result<(), Refusal> {
     if place > source.len() {
         return Err(Refusal::at(42, 0, 0));
@@ -85,7 +85,7 @@ fn at_place(source: &[u8], place: usize) -> Result<(), Refusal> {
     Ok(())
 }
 
-/// 1: "source above 65,536 bytes"; 2: "byte above 127", at the first such byte.
+/// 1 for a source too long, 2 at the first byte above 127: RULES 1.2.
 fn readable(source: &[u8]) -> Result<(), Refusal> {
     if source.len() > 65536 {
         return Err(Refusal::at(1, 0, 0));
@@ -96,7 +96,7 @@ fn readable(source: &[u8]) -> Result<(), Refusal> {
     }
 }
 
-/// "the exact sum, difference or product, or the quotient truncated toward zero"; 50 beyond 32 signed bits, 51 for a zero divisor.
+/// The exact result, or 50 or 51: RULES 5.5.
 pub fn evaluate(operator: Operator, left: i32, right: i32) -> Result<i32, Refusal> {
     let (left, right) = (left as i64, right as i64);
     let exact = match operator {

@@ -1,4 +1,4 @@
-//! Operands.
+//! Operands: registers, segments, addresses in brackets, far addresses, expressions.
 use super::reader::{refuse, Reader, Step};
 use super::words::{register_number, segment_field, segment_number, size_field};
 use laqhoncu::{Name, Refusal, Register, Segment, Size, TokenKind};
@@ -6,7 +6,7 @@ use laqhoncu::{Name, Refusal, Register, Segment, Size, TokenKind};
 impl Reader<'_> {
     /// The operand that begins at the token ahead.
     pub fn operand(&mut self) -> Step {
-        // "Size words may repeat; the last counts, and only before a bracket."
+        // Of several size words the last counts: RULES 6.3.
         let mut size = None;
         while let Some(Name::Size(word)) = self.name() {
             size = Some(word);
@@ -25,7 +25,7 @@ impl Reader<'_> {
             _ if self.is(b'[') => self.bracket(size),
             _ => {
                 self.expression()?;
-                // "`a:b` is far."
+                // Far: RULES 6.4.
                 if self.is(b':') {
                     self.take()?;
                     self.expression()?;
@@ -43,7 +43,7 @@ impl Reader<'_> {
         let from = self.place();
         self.take()?;
         let (mut segment, mut encoding, mut displacement) = (None, None, false);
-        // "A bracket starts with a number or a name, else 24."
+        // What a bracket may begin with: RULES 6.5.
         match self.kind() {
             TokenKind::Number(_) => {
                 self.expression()?;
@@ -68,13 +68,13 @@ impl Reader<'_> {
         match encoding {
             Some(encoding) => self.put(b"OX", span, &[encoding, displacement as u32, size, segment]),
             None if displacement => self.put(b"OD", span, &[size, segment]),
-            // "`[es:]`, nothing after the override", "bracket to bracket"; "given after the token behind .. the `]` .. has been read".
+            // 32, over the whole bracket, once the token behind it is read: RULES 6.5, 11.3.
             None => return refuse(32, span),
         }
         Ok(())
     }
 
-    /// "A segment name there needs a colon."
+    /// The override: a segment and its colon. RULES 6.5.
     fn override_ahead(&mut self) -> Step<Option<Segment>> {
         let Some(Name::Segment(segment)) = self.name() else { return Ok(None) };
         self.take()?;
@@ -92,7 +92,7 @@ impl Reader<'_> {
         }
     }
 
-    /// "Then bx, bp, si or di, perhaps `+` si or di": the number of the encoding, or None where no register is ahead.
+    /// The registers of an address: the number of their encoding, or None where no register is ahead. RULES 6.5, 6.6.
     fn registers(&mut self) -> Step<Option<u32>> {
         let from = self.place();
         let Some(first) = self.register() else { return Ok(None) };
@@ -110,7 +110,7 @@ impl Reader<'_> {
         }
         let plus = self.state;
         self.take()?;
-        // "Where no register follows the plus, the reader goes back to the plus and reads an expression".
+        // No register behind the plus: it belongs to a displacement, so back to it. RULES 4.3, 6.5.
         let Some(second) = self.register() else {
             self.state = plus;
             return Ok(Some(alone));
@@ -124,7 +124,7 @@ impl Reader<'_> {
             (Register::Bx, _) => Ok(Some(1)),
             (Register::Bp, Register::Si) => Ok(Some(2)),
             (Register::Bp, _) => Ok(Some(3)),
-            // "si or di, plus si or di", "both registers"; "given after the token behind .. the second register has been read".
+            // 33, over both registers, once the token behind them is read: RULES 6.5, 11.3.
             _ => refuse(33, self.since(from)),
         }
     }

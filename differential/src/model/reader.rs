@@ -1,4 +1,4 @@
-//! The reader's state: "The reader holds one token ahead; 30 and 31 come when that token is read."
+//! The reader's state, one token ahead: RULES 4.
 use super::listing::put;
 use super::words;
 use super::Rules;
@@ -58,7 +58,7 @@ impl<'a> Reader<'a> {
         matches!(self.kind(), TokenKind::NewLine | TokenKind::EndOfFile)
     }
 
-    /// "The text of a token is handed out as that part of the source."
+    /// The text of the token ahead: its part of the source.
     pub fn text(&self) -> &'a [u8] {
         &self.source[self.span().range()]
     }

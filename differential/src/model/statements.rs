@@ -1,12 +1,11 @@
-//! Statements.
+//! Statements: labels, instructions, `equ`, `db` and `dw`, `times`, and the line ends between them.
 use super::listing::put;
 use super::reader::{refuse, Reader, Step};
 use super::words::{directive, operation, REP, REPNE};
 use laqhoncu::{Directive, TokenKind};
 
 impl Reader<'_> {
-    /// Reads the next statement, "ST first"; or says "that none is left, which holds only before nothing but line feeds, whitespace and
-    /// comments".
+    /// Reads the next statement, whose first record is ST; or says that none is left. RULES 7.9.
     pub fn statement(&mut self) -> Step<bool> {
         if !self.is_left()? {
             return Ok(false);
@@ -42,7 +41,7 @@ impl Reader<'_> {
         }
     }
 
-    /// 10: "line end" expected; the end of the source is one.
+    /// 10 where no line end is ahead; the end of the source is one. RULES 7.8.
     fn line_end(&mut self) -> Step {
         match self.kind() {
             TokenKind::NewLine => self.take(),
@@ -51,7 +50,7 @@ impl Reader<'_> {
         }
     }
 
-    /// "`rep` and `repne` take no operands and need no line end; nor does a label."
+    /// A label, behind which the line may go on: RULES 7.2.
     fn label(&mut self) -> Step {
         self.put(b"LL", self.span(), &[]);
         self.take()?;
@@ -98,7 +97,7 @@ impl Reader<'_> {
         Ok(())
     }
 
-    /// "`db` and `dw` take literals, commas optional; strings give one byte a character, numbers their low one or two bytes, low first."
+    /// A data line: RULES 7.6.
     fn data(&mut self, width: usize) -> Step {
         let word = self.span();
         self.take()?;
@@ -112,8 +111,7 @@ impl Reader<'_> {
                     bytes.extend_from_slice(&text[1..text.len() - 1]);
                 }
                 TokenKind::Number(value) => {
-                    // "60: number too wide for its data word, span the number; it comes when that literal is taken, after 30 and 31 and
-                    // before any later token is read"
+                    // 60, at the number, before the token behind it is read: RULES 7.6, 11.3.
                     let most = if width == 1 { 255 } else { 65535 };
                     if self.rules.counts_fit && value > most {
                         return self.refuse(60);
@@ -134,9 +132,9 @@ impl Reader<'_> {
         Ok(())
     }
 
-    /// "`times` takes an expression and a content statement, which may stand on a later line."
+    /// `times`, its count and its content: RULES 7.7.
     fn times(&mut self, nesting: usize) -> Step {
-        // "17th nested `times`", on "that word", "before another is read".
+        // 5, at the word, before another is read: RULES 7.7, 11.3.
         if nesting > self.rules.nesting {
             return self.refuse(5);
         }

@@ -1,24 +1,24 @@
-//! Tokens.
+//! Tokens: the one at a place of a source, and the numbers among them.
 use super::Rules;
 use laqhoncu::{Refusal, Span, Token, TokenKind};
 
 impl Rules {
-    /// The token at a place that is not beyond the end: "Every token but end of file has at least one byte, and tokens tile the source."
+    /// The token at a place that is not beyond the end: RULES 2.
     pub fn token(&self, source: &[u8], place: usize) -> Result<Token, Refusal> {
         let rest = &source[place..];
         let Some(first) = rest.first().copied() else {
             return Ok(Token { kind: TokenKind::EndOfFile, span: Span { from: place, to: place } });
         };
         let (kind, length) = match first {
-            // "Space, tab and CR are whitespace."
+            // RULES 2.2.
             b' ' | b'\t' | b'\r' => (TokenKind::Whitespace, run(rest, |byte| matches!(byte, b' ' | b'\t' | b'\r'))),
-            // "A comment runs from `;` to before the line feed."
+            // To before the line feed: RULES 2.2.
             b';' => (TokenKind::Comment, run(rest, |byte| byte != b'\n')),
             b'\n' => (TokenKind::NewLine, 1),
-            // "A dot that starts a token stays punctuation."
+            // A name; no dot begins one: RULES 2.3.
             b'a'..=b'z' | b'A'..=b'Z' | b'_' => (TokenKind::Identifier, run(rest, |byte| self.in_names(byte))),
             b'0'..=b'9' => self.number(rest).map_err(|(number, length)| Refusal::at(number, place, place + length))?,
-            // "A quoted string ends at the next `'` (closed) or before the line feed or end (unclosed)."
+            // A string, closed or not: RULES 2.6.
             b'\'' => {
                 let inside = run(&rest[1..], |byte| byte != b'\'' && byte != b'\n');
                 let closed = rest.get(1 + inside) == Some(&b'\'');
@@ -38,8 +38,7 @@ impl Rules {
     /// The number at the start of a text, and its length; or its refusal and the length of what that is about.
     fn number(&self, text: &[u8]) -> Result<(TokenKind, usize), (u8, usize)> {
         let digits_of = |base: u32, text: &[u8]| run(text, |byte| (byte as char).is_digit(base));
-        // "`0b`, `0o`, `0d`, `0x` (lower case) followed by at least one digit of that base take all such digits; with none, the token is
-        // the single `0`." 31: "prefixed number above 2147483647", at "prefix and digits".
+        // With a prefix, or the single `0` where no digit follows it; 31 at prefix and digits: RULES 2.4.
         let prefixed = match text {
             [b'0', b'b', ..] => Some(2),
             [b'0', b'o', ..] => Some(8),
@@ -55,8 +54,8 @@ impl Rules {
                 None => Err((31, 2 + digits)),
             };
         }
-        // "Otherwise take the run of hexadecimal digits. If its last character is b, B, d or D, that is the suffix and leaves the run. Else
-        // a following o, O, h or H is taken as suffix. Else the base is 10." Document 02, Ask 4, exchanges the two tests.
+        // Without a prefix: the run's last character, then the letter behind the run, then base 10 (RULES 14.2). RULES 2.5 exchanges the
+        // two tests.
         let whole = digits_of(16, text);
         let letter = match text.get(whole) {
             Some(b'o' | b'O') => Some((whole, 8, whole + 1)),
@@ -70,11 +69,11 @@ impl Rules {
         };
         let found = if self.letter_first { letter.or(suffix) } else { suffix.or(letter) };
         let (digits, base, length) = found.unwrap_or((whole, 10, whole));
-        // "Binary with a character above `1` is refusal 30", at the "run with suffix".
+        // 30, at the run with its suffix: RULES 2.5.
         if base == 2 && text[..digits].iter().any(|byte| *byte > b'1') {
             return Err((30, length));
         }
-        // "If the digits don't fit the base or exceed 2147483647, the token is Invalid of length 1."
+        // Invalid, one byte, where it is no number or too large: RULES 2.5.
         Ok(match value(&text[..digits], base) {
             Some(value) => (TokenKind::Number(value), length),
             None => (TokenKind::Invalid(text[0]), 1),

@@ -1,8 +1,8 @@
-//! Words: "16 registers, 4 segments, `byte` and `word`, 117 spellings of 99 operations .. Case is ignored."
+//! Words: RULES 3.
 use laqhoncu::{Directive, Name, Register, Segment, Size};
 use std::sync::OnceLock;
 
-/// "An operation's number is its place in `enum Operation` from 0": the spellings of each, a space between two.
+/// The operations by their numbers, from 0 (RULES 3.6): the spellings of each, a space between two.
 #[rustfmt::skip]
 pub const OPERATIONS: [&str; 99] = [
     // 0: data transfer
@@ -93,7 +93,7 @@ pub fn directive(word: &[u8]) -> Option<Directive> {
     })
 }
 
-/// "byte registers 0–7, word 8–15, by encoding". Written out, so that the package's numbers are compared with these.
+/// The number of a register (RULES 3.2), written out, so that the package's numbers are compared with these.
 pub fn register_number(register: Register) -> u32 {
     match register {
         Register::Al => 0,
@@ -115,7 +115,7 @@ pub fn register_number(register: Register) -> u32 {
     }
 }
 
-/// "ES CS SS DS, 0–3".
+/// The number of a segment: RULES 3.3.
 pub fn segment_number(segment: Segment) -> u32 {
     match segment {
         Segment::Es => 0,
@@ -125,7 +125,7 @@ pub fn segment_number(segment: Segment) -> u32 {
     }
 }
 
-/// "size 0 none, 1 byte, 2 word".
+/// A size as a field: RULES 8.3.
 pub fn size_field(size: Option<Size>) -> u32 {
     match size {
         None => 0,
@@ -134,7 +134,7 @@ pub fn size_field(size: Option<Size>) -> u32 {
     }
 }
 
-/// "segment 0 none, else 1 more than its number".
+/// A segment as a field of an address: RULES 8.3.
 pub fn segment_field(segment: Option<Segment>) -> u32 {
     segment.map_or(0, |segment| 1 + segment_number(segment))
 }

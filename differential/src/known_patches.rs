@@ -1,7 +1,8 @@
-//! Patches whose answers documents 01 and 02 settle in their own words; neither the model nor the original is asked.
-use crate::answer::{lines, Listing};
+//! Patches whose answers RULES 10 settles in its own words; neither the model nor the original is asked.
+use crate::escapes::escaped;
+use crate::listings::{lines, records};
 use crate::model::Rules;
-use crate::patched::{called, shown, Call, Patch, Patched};
+use crate::patch_call::{called, shown, Call, Patch, Patched};
 use laqhoncu::Refusal;
 
 pub struct Known {
@@ -20,19 +21,6 @@ impl Known {
     fn of(source: impl AsRef<[u8]>, listing: &str, place: usize, text: impl AsRef<[u8]>, answer: Patched) -> Self {
         Self { source: source.as_ref().to_vec(), listing: records(listing), place, text: text.as_ref().to_vec(), answer }
     }
-}
-
-/// The bytes of records given as the program `listing` prints them, `; ` between two; of data, the count and then the bytes.
-pub fn records(text: &str) -> Vec<u8> {
-    let mut listing = Listing { bytes: Vec::new(), base: 0 };
-    for record in text.split("; ").filter(|record| !record.is_empty()) {
-        let (mark, fields) = record.split_once(' ').unwrap();
-        let fields: Vec<u32> = fields.split(' ').map(|field| field.parse().unwrap()).collect();
-        let (fields, data) = fields.split_at(if mark == "LD" { 3 } else { fields.len() });
-        listing.record(mark, fields);
-        listing.bytes.extend(data.iter().map(|byte| u8::try_from(*byte).unwrap()));
-    }
-    listing.bytes
 }
 
 fn written(source: impl AsRef<[u8]>, listing: &str) -> Patched {
@@ -124,7 +112,7 @@ fn known() -> Vec<Known> {
     ]
 }
 
-/// Document 02, Ask 2: a line with a dot in a name leaves a `times` open, or is read, where document 01 refuses it at the dot.
+/// RULES 2.3: a line with a dot in a name leaves a `times` open, or is read, where the base rules refuse it at the dot.
 fn dotted() -> Vec<Known> {
     let labels = "ST 0; LL 0 1; ST 2; LL 2 3";
     vec![
@@ -164,7 +152,7 @@ fn dotted() -> Vec<Known> {
     ]
 }
 
-/// Document 02, Ask 4: a line with o or h behind a run that ends in b or d is read, leaves a `times` open or is refused, where document 01 says
+/// RULES 2.5: a line with o or h behind a run that ends in b or d is read, leaves a `times` open or is refused, where the base rules say
 /// something else.
 fn lettered() -> Vec<Known> {
     let labels = "ST 0; LL 0 1; ST 2; LL 2 3";
@@ -211,7 +199,7 @@ pub fn replay(rules: Rules, mut ours: impl Patch) -> u64 {
         let (call, room) = (known.call(), 65536);
         let said = called(&mut ours, &call, room, room);
         let text = |answer: &Patched| match answer {
-            Ok((source, listing)) => format!("{:?}\n{}", source.escape_ascii().to_string(), lines(listing)),
+            Ok((source, listing)) => format!("{}\n{}", escaped(source), lines(listing)),
             Err(refusal) => format!("{refusal:?}\n"),
         };
         assert!(said == known.answer, "a known patch: {}\nexpected {}said {}", shown(&call), text(&known.answer), text(&said));

@@ -1,4 +1,5 @@
 //! A call of the patch, and what it says and writes.
+use crate::escapes::escaped;
 use crate::lent::{filled, left};
 use laqhoncu::Refusal;
 
@@ -27,6 +28,6 @@ pub fn called(ours: &mut impl Patch, call: &Call, source_room: usize, listing_ro
 }
 
 pub fn shown(call: &Call) -> String {
-    let text = |bytes: &[u8]| bytes.escape_ascii().to_string();
-    format!("{:?} at {}: {:?}, listing {:?}", text(call.source), call.place, text(call.text), text(call.listing))
+    let Call { source, listing, place, text } = *call;
+    format!("{} at {place}: {}, listing {}", escaped(source), escaped(text), escaped(listing))
 }

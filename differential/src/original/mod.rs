@@ -1,13 +1,22 @@
 //! What the original says of a source, in the form of our answers: its trees as a listing, its errors as refusals, its panics
 //! as 30 to 34. Where this software parts from it: see `departures`.
-use crate::answer::{moved, Answer, Listing};
-use laqhoncu::{Refusal, Register, Segment, Size, Span, TokenKind};
-use mrc_compiler::ast::{self, ByteRegister, DataSize, Expression, Line, Operand, Operands, Value, WordRegister};
+
+mod names;
+mod trees;
+
+pub use names::{named, spellings};
+
+use crate::answer::{moved, Answer};
+use crate::listings::Listing;
+use laqhoncu::{Refusal, Span, TokenKind};
+use mrc_compiler::ast::{Expression, Line};
 use mrc_compiler::lexer::{Cursor, LiteralKind, PunctuationKind, Token};
 use mrc_compiler::parser::{Parser, ParserError};
+use names::register_of;
 use std::cell::Cell;
 use std::panic::{catch_unwind, AssertUnwindSafe};
 use std::sync::Once;
+use trees::put_line;
 
 thread_local!(static EXPECTED: Cell<bool> = const { Cell::new(false) });
 
@@ -83,53 +92,6 @@ pub fn refused_number_end(source: &[u8], number: u8, from: usize) -> usize {
     start + source[start..].iter().take_while(|b| (**b as char).is_digit(base)).count()
 }
 
-fn number_of_register(register: &ast::Register) -> u8 {
-    match register {
-        ast::Register::Byte(r) => r.encoding(),
-        ast::Register::Word(r) => 8 + r.encoding(),
-    }
-}
-
-/// The register of the same name; not of the same number, so that the package's numbers are compared too.
-pub fn register_of(register: &ast::Register) -> Register {
-    match register {
-        ast::Register::Byte(ByteRegister::Al) => Register::Al,
-        ast::Register::Byte(ByteRegister::Cl) => Register::Cl,
-        ast::Register::Byte(ByteRegister::Dl) => Register::Dl,
-        ast::Register::Byte(ByteRegister::Bl) => Register::Bl,
-        ast::Register::Byte(ByteRegister::Ah) => Register::Ah,
-        ast::Register::Byte(ByteRegister::Ch) => Register::Ch,
-        ast::Register::Byte(ByteRegister::Dh) => Register::Dh,
-        ast::Register::Byte(ByteRegister::Bh) => Register::Bh,
-        ast::Register::Word(WordRegister::Ax) => Register::Ax,
-        ast::Register::Word(WordRegister::Cx) => Register::Cx,
-        ast::Register::Word(WordRegister::Dx) => Register::Dx,
-        ast::Register::Word(WordRegister::Bx) => Register::Bx,
-        ast::Register::Word(WordRegister::Sp) => Register::Sp,
-        ast::Register::Word(WordRegister::Bp) => Register::Bp,
-        ast::Register::Word(WordRegister::Si) => Register::Si,
-        ast::Register::Word(WordRegister::Di) => Register::Di,
-    }
-}
-
-/// The segment of the same name.
-pub fn segment_of(segment: &ast::Segment) -> Segment {
-    match segment {
-        ast::Segment::ES => Segment::Es,
-        ast::Segment::CS => Segment::Cs,
-        ast::Segment::SS => Segment::Ss,
-        ast::Segment::DS => Segment::Ds,
-    }
-}
-
-/// The size of the same name.
-pub fn size_of(size: &DataSize) -> Size {
-    match size {
-        DataSize::Byte => Size::Byte,
-        DataSize::Word => Size::Word,
-    }
-}
-
 fn refusal_of(error: &ParserError) -> Refusal {
     let span = error.span();
     let at = |number| Refusal::at(number, span.start, span.end);
@@ -155,90 +117,6 @@ fn refusal_of(error: &ParserError) -> Refusal {
         }
         ParserError::UnterminatedStringLiteral(..) => at(26),
         ParserError::SecondOperandExpected(..) => panic!("an error that the original never gives"),
-    }
-}
-
-fn put_expression(out: &mut Listing, expression: &Expression) {
-    let [f, t] = out.span(expression.span());
-    match expression {
-        Expression::PrefixOperator(_, operator, right) => {
-            put_expression(out, right);
-            out.record("PF", &[f, t, *operator as u32]);
-        }
-        Expression::InfixOperator(_, operator, left, right) => {
-            put_expression(out, left);
-            put_expression(out, right);
-            out.record("IN", &[f, t, *operator as u32]);
-        }
-        Expression::Value(_, Value::Constant(value)) => out.record("VC", &[f, t, *value as u32]),
-        Expression::Value(_, Value::Label(_)) => out.record("VL", &[f, t]),
-        Expression::Value(_, Value::InstructionStart) => out.record("VI", &[f, t]),
-        Expression::Value(_, Value::SectionStart) => out.record("VS", &[f, t]),
-    }
-}
-
-fn put_operand(out: &mut Listing, operand: &Operand) {
-    let [f, t] = out.span(operand.span());
-    let size_of = |size: &Option<DataSize>| size.map_or(0, |size| 1 + size as u32);
-    let segment_of = |segment: &Option<ast::Segment>| segment.map_or(0, |segment| 1 + segment.encoding() as u32);
-    match operand {
-        Operand::Immediate(_, expression) => {
-            put_expression(out, expression);
-            out.record("OI", &[f, t]);
-        }
-        Operand::Direct(_, expression, size, segment) => {
-            put_expression(out, expression);
-            out.record("OD", &[f, t, size_of(size), segment_of(segment)]);
-        }
-        Operand::Indirect(_, encoding, displacement, size, segment) => {
-            displacement.iter().for_each(|expression| put_expression(out, expression));
-            let has = displacement.is_some() as u32;
-            out.record("OX", &[f, t, encoding.encoding() as u32, has, size_of(size), segment_of(segment)]);
-        }
-        // The original holds the offset first; the source has the segment first.
-        Operand::Far(_, offset, segment) => {
-            put_expression(out, segment);
-            put_expression(out, offset);
-            out.record("OF", &[f, t]);
-        }
-        Operand::Register(_, register) => out.record("OR", &[f, t, number_of_register(register) as u32]),
-        Operand::Segment(_, segment) => out.record("OS", &[f, t, segment.encoding() as u32]),
-    }
-}
-
-fn put_line(out: &mut Listing, line: &Line) {
-    let [f, t] = out.span(line.span());
-    match line {
-        Line::Label(_) => out.record("LL", &[f, t]),
-        Line::Instruction(instruction) => {
-            let count = match &instruction.operands {
-                Operands::None(_) => 0,
-                Operands::Destination(_, destination) => {
-                    put_operand(out, destination);
-                    1
-                }
-                Operands::DestinationAndSource(_, destination, source) => {
-                    put_operand(out, destination);
-                    put_operand(out, source);
-                    2
-                }
-            };
-            let [from, to] = out.span(instruction.operands.span());
-            out.record("LI", &[f, t, instruction.operation as u32, count, from, to]);
-        }
-        Line::Data(_, bytes) => {
-            out.record("LD", &[f, t, bytes.len() as u32]);
-            out.bytes.extend_from_slice(bytes);
-        }
-        Line::Constant(_, expression) => {
-            put_expression(out, expression);
-            out.record("LC", &[f, t]);
-        }
-        Line::Times(_, count, content) => {
-            put_expression(out, count);
-            put_line(out, content);
-            out.record("LT", &[0, 0]);
-        }
     }
 }
 
@@ -346,28 +224,14 @@ fn read_part(source: &str, place: usize, part: Part) -> Answer {
     }
 }
 
-/// The source as the original takes it. Those beyond 65,536 bytes (1) or with a byte above 127 (2) are not the original's.
-pub fn lent(source: &[u8]) -> Result<&str, Refusal> {
-    if source.len() > 65536 {
-        return Err(Refusal::at(1, 0, 0));
-    }
-    match source.iter().position(|b| *b > 127) {
-        Some(at) => Err(Refusal::at(2, at, at + 1)),
-        None => Ok(std::str::from_utf8(source).unwrap()),
-    }
-}
-
-/// The full read as the original does it.
-pub fn read(source: &[u8]) -> Answer {
-    read_part(lent(source)?, 0, Part::Whole)
+/// The full read of an ASCII source, as the original does it.
+pub fn read(source: &str) -> Answer {
+    read_part(source, 0, Part::Whole)
 }
 
 /// The records of the statement at a place, as the original would read it there; empty where none is left.
-pub fn read_statement(source: &[u8], place: usize) -> Answer {
-    if place > source.len() {
-        return Err(Refusal::at(42, 0, 0));
-    }
-    read_part(lent(source)?, place, Part::OneStatement)
+pub fn read_statement(source: &str, place: usize) -> Answer {
+    read_part(source, place, Part::OneStatement)
 }
 
 /// Whether the original, reading the first statement of a text, reads its token `n`. It doesn't say so itself; but a refused number makes it
