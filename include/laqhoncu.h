@@ -34,10 +34,12 @@ extern "C" {
 #define LAQHONCU_LISTING_FACTOR 18
 
 /* The bytes of stack that a call needs, with all that it calls; a fifth of each or more is to spare. A thread that calls needs its own
-   besides. However short the source, the full read takes most of its number, and so does a patch that reads a line. OTHER is for each function
-   that has no number of its own. */
+   besides. However short the source, the full read takes most of its number, and the patch more than half; the lean full read and the
+   statement read take most of theirs only where a statement nests as deep as the limits 3 and 5 allow. OTHER is for each function that has no
+   number of its own. */
 #define LAQHONCU_STACK_FULL_READ 356352
-#define LAQHONCU_STACK_PATCH 438272
+#define LAQHONCU_STACK_FULL_READ_LEAN 28672
+#define LAQHONCU_STACK_PATCH 114688
 #define LAQHONCU_STACK_STATEMENT_READ 28672
 #define LAQHONCU_STACK_OTHER 4096
 
@@ -171,6 +173,10 @@ struct laqhoncu_full_reading {
     uint32_t length; /* the bytes written to `out`; at a refusal 0 */
 };
 struct laqhoncu_full_reading laqhoncu_full_read(const uint8_t *source, size_t length, uint8_t *out, size_t room);
+
+/* The same answers and the same bytes, for a thread with little stack: less than a twelfth of what the full read needs. It keeps no records on
+   the stack, but measures them, and reads the source again to write them; so it takes about twice as long. */
+struct laqhoncu_full_reading laqhoncu_full_read_lean(const uint8_t *source, size_t length, uint8_t *out, size_t room);
 
 /* The statement at a place, as records in `out`: a listing of that statement alone, with the places of the whole source. Line feeds, blanks
    and comments before it are passed. Where only such are left there is no statement: number, found, length and ahead are 0 then.

@@ -1,4 +1,4 @@
-/* Calls every function that include/laqhoncu.h declares, with answers that document 01 gives: its samples, its edits, each of its refusals.
+/* Calls every function that include/laqhoncu.h declares, with answers that RULES give: their samples, their edits, each of their refusals.
    Buffers hold a pattern before each call and are looked through after it. The arguments are what the header's comment says of operations and
    registers: `operation` or `register`, its number and a spelling, as often as there are such. Ends with status 1 at the first difference; else
    prints how many answers were compared. */
@@ -76,6 +76,19 @@ static size_t listing(const char *text, uint8_t *out) {
     return n;
 }
 
+/* Both full reads, each into a buffer that held the pattern: one answer, and the same bytes in the whole buffer. */
+static struct laqhoncu_full_reading full_read(const uint8_t *source, size_t length, uint8_t *out, size_t room, const char *name) {
+    uint8_t again[ROOM];
+    struct laqhoncu_full_reading said, lean;
+    fill(out, ROOM);
+    fill(again, ROOM);
+    said = laqhoncu_full_read(source, length, out, room);
+    lean = laqhoncu_full_read_lean(source, length, again, room);
+    check(same_numbers(lean.refusal, said.refusal) && lean.length == said.length, "the lean full read's answer", name);
+    check(memcmp(again, out, ROOM) == 0, "the lean full read's bytes", name);
+    return said;
+}
+
 /* A full read that writes these records: lent more than enough, just enough, and a byte too little (4). */
 static void reads(const char *source, const char *records) {
     uint8_t wanted[ROOM], out[ROOM];
@@ -86,18 +99,14 @@ static void reads(const char *source, const char *records) {
     rooms[1] = n;
     check(n <= LAQHONCU_LISTING_FACTOR * length, "the listing is longer than the header allows", source);
     for (i = 0; i < 2; i++) {
-        struct laqhoncu_full_reading said;
-        fill(out, ROOM);
-        said = laqhoncu_full_read(bytes(source), length, out, rooms[i]);
+        struct laqhoncu_full_reading said = full_read(bytes(source), length, out, rooms[i], source);
         check(same_numbers(said.refusal, refusal(0, 0, 0)), "the full read refuses it", source);
         check(said.length == n, "the full read's length", source);
         check(memcmp(out, wanted, n) == 0, "the full read's bytes", source);
         check(left(out, n, ROOM), "the full read wrote beyond its result", source);
     }
     if (n > 0) {
-        struct laqhoncu_full_reading said;
-        fill(out, ROOM);
-        said = laqhoncu_full_read(bytes(source), length, out, n - 1);
+        struct laqhoncu_full_reading said = full_read(bytes(source), length, out, n - 1, source);
         check(same_numbers(said.refusal, refusal(4, 0, 0)), "the full read in a byte too little", source);
         check(said.length == 0 && left(out, 0, ROOM), "the full read wrote at a refusal", source);
     }
@@ -106,9 +115,7 @@ static void reads(const char *source, const char *records) {
 /* A full read that gives these numbers and writes nothing. */
 static void says(const uint8_t *source, size_t length, struct laqhoncu_numbers wanted, const char *name) {
     uint8_t out[ROOM];
-    struct laqhoncu_full_reading said;
-    fill(out, ROOM);
-    said = laqhoncu_full_read(source, length, out, ROOM);
+    struct laqhoncu_full_reading said = full_read(source, length, out, ROOM, name);
     check(same_numbers(said.refusal, wanted), "the full read's refusal", name);
     check(said.length == 0 && left(out, 0, ROOM), "the full read wrote at a refusal", name);
 }
@@ -237,7 +244,7 @@ static void statement(const char *source, size_t place, struct laqhoncu_numbers 
 static void walk(const char *source) {
     uint8_t wanted[ROOM], out[ROOM];
     size_t length = strlen(source), at = 0, n = 0;
-    struct laqhoncu_full_reading all = laqhoncu_full_read(bytes(source), length, wanted, ROOM);
+    struct laqhoncu_full_reading all = full_read(bytes(source), length, wanted, ROOM, source);
     struct laqhoncu_statement_reading one = laqhoncu_statement_read(bytes(source), length, at, out, ROOM);
     check(all.refusal.number == 0, "the full read refuses it", source);
     while (one.refusal.number == 0 && one.found) {
@@ -383,7 +390,7 @@ static void words(void) {
     word("", LAQHONCU_NONE, LAQHONCU_NO_NAME, LAQHONCU_NONE);
 }
 
-/* What the header's comment says of words: document 01 has 117 spellings of 99 operations and 16 registers. */
+/* What the header's comment says of words: RULES 3.6 has 117 spellings of 99 operations and 16 registers. */
 static void spelled(int argc, char **argv) {
     int i, operations = 0, registers = 0, last = -1;
     for (i = 1; i + 2 < argc; i += 3) {
@@ -481,11 +488,13 @@ static void nulls(void) {
     size_t n = listing("ST 0; LL 0 1; ST 2; LL 2 3", lent);
     struct laqhoncu_numbers accepted = refusal(0, 0, 0);
     struct laqhoncu_full_reading full = laqhoncu_full_read(NULL, 0, NULL, 0);
+    struct laqhoncu_full_reading lean = laqhoncu_full_read_lean(NULL, 0, NULL, 0);
     struct laqhoncu_statement_reading one = laqhoncu_statement_read(NULL, 0, 0, NULL, 0);
     struct laqhoncu_token_reading read = laqhoncu_token_read(NULL, 0, 0);
     struct laqhoncu_token_found found = laqhoncu_token(NULL, 0, 0);
     struct laqhoncu_patching said = laqhoncu_patch(NULL, 0, NULL, 0, 0, NULL, 0, NULL, 0, NULL, 0);
     check(same_numbers(full.refusal, accepted) && full.length == 0, "the full read", "NULL");
+    check(same_numbers(lean.refusal, accepted) && lean.length == 0, "the lean full read", "NULL");
     check(same_numbers(one.refusal, accepted) && one.found == 0 && one.length == 0 && one.ahead == 0, "the statement read", "NULL");
     check(same_numbers(read.refusal, accepted) && read.token.kind == 0 && read.token.value == 0 && read.token.end == 0, "the token read", "NULL");
     check(found.kind == 0 && found.value == 0 && found.end == 0, "the token", "NULL");
@@ -497,10 +506,12 @@ static void nulls(void) {
     /* one at a time, beside buffers that are there */
     fill(source, ROOM);
     fill(out, ROOM);
-    full = laqhoncu_full_read(NULL, 0, out, ROOM);
+    full = full_read(NULL, 0, out, ROOM, "no source");
     check(same_numbers(full.refusal, accepted) && full.length == 0 && left(out, 0, ROOM), "the full read", "no source");
     full = laqhoncu_full_read(old, 4, NULL, 0);
     check(same_numbers(full.refusal, refusal(4, 0, 0)) && full.length == 0, "the full read", "no room");
+    lean = laqhoncu_full_read_lean(old, 4, NULL, 0);
+    check(same_numbers(lean.refusal, refusal(4, 0, 0)) && lean.length == 0, "the lean full read", "no room");
     one = laqhoncu_statement_read(NULL, 0, 0, out, ROOM);
     check(same_numbers(one.refusal, accepted) && one.found == 0 && left(out, 0, ROOM), "the statement read", "no source");
     one = laqhoncu_statement_read(old, 4, 0, NULL, 0);
@@ -521,7 +532,7 @@ static void nulls(void) {
     check(said.listing == listing("ST 4; LL 4 5", lent) && memcmp(out, lent, said.listing) == 0, "the patch's listing", "no listing");
 }
 
-/* The header's names have document 01's numbers, and each was met above, and no other. */
+/* The header's names have the numbers of RULES 11.1, and each was met above, and no other. */
 static void named(void) {
     static const int names[][2] = {
         {LAQHONCU_ACCEPTED, 0},
@@ -570,7 +581,7 @@ static void named(void) {
     }
     for (i = 0; i < 256; i++) others += met[i];
     check(others == 0, "a refusal that the header does not name", "its names");
-    check(LAQHONCU_SOURCE_MAX == 65536 && LAQHONCU_LISTING_FACTOR == 18, "the limits of document 01", "its limits");
+    check(LAQHONCU_SOURCE_MAX == 65536 && LAQHONCU_LISTING_FACTOR == 18, "the limits of RULES 1.2 and 8.4", "its limits");
     sprintf(version, "%d.%d.%d", LAQHONCU_VERSION_MAJOR, LAQHONCU_VERSION_MINOR, LAQHONCU_VERSION_PATCH);
     check(strcmp(version, LAQHONCU_VERSION) == 0, "the parts of the version", version);
 }

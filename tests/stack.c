@@ -52,6 +52,7 @@ static size_t old_length, text_length, listing_length, place;
 static struct laqhoncu_numbers answer;
 
 static void full_read(void) { answer = laqhoncu_full_read(old, old_length, out, ROOM).refusal; }
+static void full_read_lean(void) { answer = laqhoncu_full_read_lean(old, old_length, out, ROOM).refusal; }
 static void statement_read(void) { answer = laqhoncu_statement_read(old, old_length, place, out, ROOM).refusal; }
 static void token_read(void) { answer = laqhoncu_token_read(old, old_length, place).refusal; }
 static void token(void) { laqhoncu_token(old, old_length, place); }
@@ -67,8 +68,8 @@ static void evaluate(void) {
     for (i = 0; i < 5; i++) laqhoncu_evaluate(i, INT32_MIN, -1);
 }
 
-static size_t most[4];
-enum which { FULL_READ, PATCH, STATEMENT_READ, OTHER };
+enum which { FULL_READ, FULL_READ_LEAN, PATCH, STATEMENT_READ, OTHER, CONSTANTS };
+static size_t most[CONSTANTS];
 
 static void run(enum which which, void (*call)(void)) {
     size_t n = touched(call);
@@ -153,6 +154,8 @@ static void reads(void) {
             place = 0;
             run(FULL_READ, full_read);
             expect(old_length ? number[i] : 0, "a full read of many lines");
+            run(FULL_READ_LEAN, full_read_lean);
+            expect(old_length ? number[i] : 0, "a lean full read of many lines");
             run(STATEMENT_READ, statement_read);
             run(OTHER, token_read);
             run(OTHER, token);
@@ -166,6 +169,8 @@ static void reads(void) {
     old_length = sizeof old;
     run(FULL_READ, full_read);
     expect(LAQHONCU_SOURCE_TOO_LONG, "a full read of a byte too much");
+    run(FULL_READ_LEAN, full_read_lean);
+    expect(LAQHONCU_SOURCE_TOO_LONG, "a lean full read of a byte too much");
     run(STATEMENT_READ, statement_read);
     run(OTHER, token_read);
     /* the deep statements alone, and at the end of the longest source */
@@ -175,6 +180,8 @@ static void reads(void) {
         statement(old, &old_length, k);
         place = 0;
         run(FULL_READ, full_read);
+        expect(statements[k].number, statements[k].head);
+        run(FULL_READ_LEAN, full_read_lean);
         expect(statements[k].number, statements[k].head);
         run(STATEMENT_READ, statement_read);
         expect(statements[k].number, statements[k].head);
@@ -190,6 +197,8 @@ static void reads(void) {
         place = old_length;
         statement(old, &old_length, k);
         run(FULL_READ, full_read);
+        expect(statements[k].number, statements[k].head);
+        run(FULL_READ_LEAN, full_read_lean);
         expect(statements[k].number, statements[k].head);
         run(STATEMENT_READ, statement_read);
         expect(statements[k].number, statements[k].head);
@@ -274,6 +283,7 @@ static const struct {
     size_t constant;
 } said[] = {
     {"full read", LAQHONCU_STACK_FULL_READ},
+    {"lean full read", LAQHONCU_STACK_FULL_READ_LEAN},
     {"patch", LAQHONCU_STACK_PATCH},
     {"statement read", LAQHONCU_STACK_STATEMENT_READ},
     {"others", LAQHONCU_STACK_OTHER},
@@ -284,7 +294,7 @@ int main(void) {
     reads();
     words();
     patches();
-    for (i = 0; i < 4; i++) {
+    for (i = 0; i < CONSTANTS; i++) {
         printf("%s%s %lu of %lu", i ? ", " : "", said[i].title, (unsigned long)most[i], (unsigned long)said[i].constant);
         /* The header says that a fifth of it is to spare. */
         over |= most[i] > said[i].constant - said[i].constant / 5;

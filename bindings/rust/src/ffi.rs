@@ -51,6 +51,7 @@ pub struct Valuation {
 
 unsafe extern "C" {
     pub fn laqhoncu_full_read(source: *const u8, length: usize, out: *mut u8, room: usize) -> FullReading;
+    pub fn laqhoncu_full_read_lean(source: *const u8, length: usize, out: *mut u8, room: usize) -> FullReading;
     pub fn laqhoncu_patch(
         old: *const u8,
         length: usize,

@@ -1,4 +1,4 @@
-//! The typed records, on the samples of document 01 and on bytes that are none.
+//! The typed records, on the samples of RULES 15.1 and on bytes that are none.
 use laqhoncu::{Encoding, NoRecord, Operator, Record, Register, Segment, Size, Span, listing, records};
 
 fn lines(source: &str) -> String {

@@ -1,10 +1,10 @@
-//! The one table of refusals, and what the package says twice, against document 01 and against the header.
+//! The one table of refusals, and what the package says twice, against RULES 11.1 and against the header.
 use laqhoncu::{LISTING_FACTOR, Refusal, Register, SOURCE_MAX, refusals};
 use std::collections::BTreeSet;
 
 const HEADER: &str = include_str!("../../../include/laqhoncu.h");
 
-/// Document 01, "Refusals and what they leave"; 60 is document 02's.
+/// RULES 11.1, but for 255, which is no refusal of the reading.
 const NUMBERS: [u8; 33] =
     [1, 2, 3, 4, 5, 6, 10, 11, 12, 13, 14, 15, 16, 17, 20, 21, 22, 23, 24, 25, 26, 30, 31, 32, 33, 34, 40, 41, 42, 43, 50, 51, 60];
 
