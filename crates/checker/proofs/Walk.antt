@@ -1,22 +1,23 @@
 -- One record more: what the rules say of the bytes from it on is what they say of the bytes behind it, with the stack behind it; and a
 -- record that isn't one, or that the stack refuses, settles the whole.
 use mathlib.Core.Path.{_≡_, refl, sym, ap, _∙_}
-use mathlib.Core.Bool.{Bool, true, false, _&&_}
+use mathlib.Core.Bool.{Bool, true, false}
 use mathlib.Core.List.{List, [], _∷_}
 use mathlib.Core.Option.{Option, none, some}
-use Prim.Native.Nat.{ℕ, zero, suc, pred, _+_, _*_, _-_, _≤_, _<_, zero-le}
+use Prim.Native.Nat.{ℕ, zero, suc, pred, _+_, _*_, _≤_, _<_, zero-le}
 use native.Mathlib.Omega.{arith}
 use lib.Dec.{eqb, leb}
-use Prim.Native.String.{String}
 use lib.ListN.{length, take, drop, getD, length-drop}
-use lib.Seq.{drop-drop, drop-cons, drop-length, take-all}
+use lib.Seq.{drop-drop, drop-cons, drop-length}
 use borrow.Author.Tests.{leb-true}
-use Rattle.lexer.specs.Text.{if_then_else_, maybe, bytes, same}
+use Rattle.lexer.specs.Text.{maybe}
 use Rattle.lexer.proofs.Branches.{either, given as under}
-use Rattle.rules.specs.Records.{Record, ST, VC, VL, VI, VS, PF, IN, OR, OS, OI, OF, OD, OX, LL, LI, LD, LC, LT}
-use Rattle.rules.specs.Decode.{Sized, nth, having, dataAt, recordOf, also, recordsFrom, decode}
-use Rattle.rules.specs.WellFormed.{Stack, stack, allow, toExpression, toOperand, toLine, complete, given, checked, checkedAll, fresh, wellFormed}
-use Rattle.checker.specs.Checker.{wellFormedBytes, Pass, lettersOf, sized, passes, nextPass}
+use Rattle.rules.specs.Records.{Role, aStatement, aTimes, anExpression, anOperand, aLine, Form, formOf, Record, markOf, fieldsOf, cells}
+use Rattle.rules.specs.Decode.{Sized, nth, having, dataAt, formed, recordOf, also, recordsFrom, decode}
+use Rattle.rules.specs.WellFormed.{Stack, stack, allow, toExpression, toOperand, toLine, complete, given, inRange, counted, makes, checked, checkedAll, fresh, wellFormed}
+use Rattle.rules.proofs.Forms.{some-field}
+use Rattle.records.specs.Marks.{lettersOf}
+use Rattle.checker.specs.Checker.{wellFormedBytes, Pass, sized, passes, nextPass}
 
 -- A record that is read has at least one field, and its bytes are there.
 data Sound (s : List ℕ) : Option Sized → Type 0 where
@@ -27,34 +28,17 @@ having-sound : (n : ℕ) (s : List ℕ) (r : Record) → 1 ≤ n → Sound s (ha
 unfolding having
 having-sound n s r h = under (Sound s) (leb (4 * n) (length s)) _ _ (λ e. found (4 * n) refl (omega arith) (leb-true (4 * n) (length s) e)) (λ e. nothing)
 
-data-sound : (s : List ℕ) → Sound s (dataAt s)
+data-sound : (n : ℕ) (m s : List ℕ) → Sound s (dataAt n m s)
 unfolding dataAt
-data-sound s = under (Sound s) (leb (12 + nth 2 s) (length s)) _ _ (λ e. found (12 + nth 2 s) (omega arith) (omega arith) (leb-true (12 + nth 2 s) (length s) e)) (λ e. nothing)
+data-sound n m s = under (Sound s) (leb (4 * n + 4 + nth n s) (length s)) _ _ (λ e. found (4 * n + 4 + nth n s) refl (omega arith) (leb-true (4 * n + 4 + nth n s) (length s) e)) (λ e. nothing)
 
 record-sound : (m s : List ℕ) → Sound s (recordOf m s)
-unfolding recordOf
-record-sound m s =
-    mark "ST" (having-sound 1 s _ (omega arith))
-    (mark "VC" (having-sound 3 s _ (omega arith))
-    (mark "VL" (having-sound 2 s _ (omega arith))
-    (mark "VI" (having-sound 2 s _ (omega arith))
-    (mark "VS" (having-sound 2 s _ (omega arith))
-    (mark "PF" (having-sound 3 s _ (omega arith))
-    (mark "IN" (having-sound 3 s _ (omega arith))
-    (mark "OR" (having-sound 3 s _ (omega arith))
-    (mark "OS" (having-sound 3 s _ (omega arith))
-    (mark "OI" (having-sound 2 s _ (omega arith))
-    (mark "OF" (having-sound 2 s _ (omega arith))
-    (mark "OD" (having-sound 4 s _ (omega arith))
-    (mark "OX" (having-sound 6 s _ (omega arith))
-    (mark "LL" (having-sound 2 s _ (omega arith))
-    (mark "LI" (having-sound 6 s _ (omega arith))
-    (mark "LD" (data-sound s)
-    (mark "LC" (having-sound 2 s _ (omega arith))
-    (either (Sound s) (same m (bytes "LT") && eqb (nth 0 s) 0 && eqb (nth 1 s) 0) _ _ (having-sound 2 s _ (omega arith)) nothing)))))))))))))))))
+unfolding recordOf formed
+record-sound m s = go (formOf m) refl
   where
-    mark : (a : String) {x y : Option Sized} → Sound s x → Sound s y → Sound s (if same m (bytes a) then x else y)
-    mark a {x} {y} p q = either (Sound s) (same m (bytes a)) x y p q
+    go : (o : Option Form) → formOf m ≡ o → Sound s (maybe o none (formed m s))
+    go none e = nothing
+    go (some w) e = either (Sound s) (w .laden) _ _ (data-sound (length (cells (w .holds))) m s) (having-sound (length (cells (w .holds))) s _ (some-field m w e))
 
 -- A stack is at most one higher behind a record.
 abbrev pub height : Stack → ℕ
@@ -85,26 +69,21 @@ module _ (k : Stack) where
   unfolding toLine stack
   line-low n m = allow-low _ _ (λ e. omega arith)
 
+  makes-low : (r : Role) (vs : List ℕ) → Low k (makes k r vs)
+  unfolding makes stack
+  makes-low aStatement vs = allow-low _ _ (λ e. omega arith)
+  makes-low aTimes vs = allow-low _ _ (λ e. omega arith)
+  makes-low (anExpression m) vs = expression-low m
+  makes-low (anOperand m) vs = operand-low (counted m vs)
+  makes-low (aLine m o) vs = line-low m (counted o vs)
+
   checked-low : (n : ℕ) (r : Record) → Low k (checked n k r)
-  unfolding checked stack
-  checked-low n (ST p) = allow-low _ _ (λ e. omega arith)
-  checked-low n (VC f t v) = given-low _ (expression-low 0)
-  checked-low n (VL f t) = given-low _ (expression-low 0)
-  checked-low n (VI f t) = given-low _ (expression-low 0)
-  checked-low n (VS f t) = given-low _ (expression-low 0)
-  checked-low n (PF f t o) = given-low _ (expression-low 1)
-  checked-low n (IN f t o) = given-low _ (expression-low 2)
-  checked-low n (OR f t r) = given-low _ (operand-low 0)
-  checked-low n (OS f t g) = given-low _ (operand-low 0)
-  checked-low n (OI f t) = given-low _ (operand-low 1)
-  checked-low n (OF f t) = given-low _ (operand-low 2)
-  checked-low n (OD f t z g) = given-low _ (operand-low 1)
-  checked-low n (OX f t e d z g) = given-low _ (operand-low d)
-  checked-low n (LL f t) = given-low _ (line-low 0 0)
-  checked-low n (LI f t o m f′ t′) = given-low _ (line-low 0 m)
-  checked-low n (LD f t d) = given-low _ (line-low 0 0)
-  checked-low n (LC f t) = given-low _ (line-low 1 0)
-  checked-low n LT = allow-low _ _ (λ e. omega arith)
+  unfolding checked
+  checked-low n r = go (formOf (markOf r))
+    where
+      go : (o : Option Form) → Low k (maybe o none (λ w. given (inRange n k w r) (makes k (w .role) (fieldsOf r))))
+      go none = stopped
+      go (some w) = given-low _ (makes-low (w .role) (fieldsOf r))
 
 -- What the rules say of bytes, with the stack that stands before them.
 unfoldable pub verdict : ℕ → Stack → List ℕ → Bool
@@ -189,10 +168,6 @@ module _ (n : ℕ) (k : Stack) where
       let u : drop at l ≡ getD l at 0 ∷ getD l (at + 1) 0 ∷ drop (at + 2) l =
       rw (b, a) (drop-cons l at 0 (omega arith) ∙ ap (λ (v : List ℕ). getD l at 0 ∷ v) (drop-cons l (suc at) 0 (omega arith))) in
       rw (u, e, f)
-
--- the part of a slice from a place to its end
-pub rest-of : (l : List ℕ) (a : ℕ) → take (length l - a) (drop a l) ≡ drop a l
-rest-of l a = take-all (length l - a) (drop a l) (omega (arith, length-drop a l))
 
 -- At a place of the listing l, with the stack of what is passed: what is left settles the whole.
 pub record Stands (l : List ℕ) (n : ℕ) (k : Stack) (at : ℕ) : Type 0 where

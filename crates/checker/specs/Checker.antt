@@ -1,8 +1,8 @@
--- What the checker of a listing answers (41), and its parts. Document 01, "The listing".
+-- What the checker of a listing answers (41), and its parts. RULES 8.5.
 use mathlib.Core.Bool.{Bool, false}
-use mathlib.Core.List.{List, [], _∷_}
+use mathlib.Core.List.{List}
 use mathlib.Core.Option.{Option, none, some}
-use Prim.Native.Nat.{ℕ, _+_, _*_, _/_, _%_}
+use Prim.Native.Nat.{ℕ, _+_, _*_}
 use lib.Dec.{leb}
 use lib.ListN.{length, take, drop}
 use Rattle.lexer.specs.Text.{if_then_else_, maybe}
@@ -18,13 +18,9 @@ use Rattle.checker.specs.declared.Passed.the-variants as passed
 unfoldable pub wellFormedBytes : List ℕ → ℕ → Bool
 wellFormedBytes b n = maybe (decode b) false (wellFormed n)
 
--- The two letters of a mark.
-abbrev pub lettersOf : ℕ → List ℕ
-lettersOf m = m / 256 ∷ m % 256 ∷ []
-
 -- The i-th field, or 0 where the bytes end before it does.
-unfoldable pub fieldAt : ℕ → List ℕ → ℕ
-fieldAt i s = if leb (4 * i + 4) (length s) then nth i s else 0
+unfoldable pub fieldIn : ℕ → List ℕ → ℕ
+fieldIn i s = if leb (4 * i + 4) (length s) then nth i s else 0
 
 -- The stack behind a record, and the number of the record's bytes.
 pub record Pass : Type 0 where

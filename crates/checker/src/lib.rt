@@ -1,50 +1,34 @@
 // The check of a listing (41), in one pass over its bytes: record by record, with what stands of the statement as three counters.
+use records::marks::IN;
+use records::marks::LC;
+use records::marks::LD;
+use records::marks::LI;
+use records::marks::LL;
+use records::marks::LT;
+use records::marks::OD;
+use records::marks::OF;
+use records::marks::OI;
+use records::marks::OR;
+use records::marks::OS;
+use records::marks::OX;
+use records::marks::PF;
+use records::marks::ST;
+use records::marks::VC;
+use records::marks::VI;
+use records::marks::VL;
+use records::marks::VS;
+use records::marks::joined;
+use records::marks::marked;
 ghost use mathlib.Core.Path.{_≡_};
-ghost use mathlib.Core.List.{[], _∷_};
-ghost use Prim.Native.Nat.{_+_, _*_, _<_};
+ghost use mathlib.Core.List.{[]};
+ghost use Prim.Native.Nat.{_+_, _<_};
 ghost use lib.ListN as ListN;
 ghost use lib.ListN.{drop};
-ghost use Rattle.rules.specs.Records.{ST, LT};
+ghost use Rattle.rules.specs.Records.{ST, aTimes};
 ghost use Rattle.rules.specs.WellFormed as rules;
 ghost use Rattle.rules.specs.Decode.{recordOf};
-ghost use Rattle.checker.specs.Checker.{wellFormedBytes, lettersOf, fieldAt, whole, passes, nextPass, heightOf, stackOf, checkedOf, passedOf};
-
-// The marks that records open with: two letters as a number.
-pub const ST: usize = 0x5354;
-
-pub const VC: usize = 0x5643;
-
-pub const VL: usize = 0x564c;
-
-pub const VI: usize = 0x5649;
-
-pub const VS: usize = 0x5653;
-
-pub const PF: usize = 0x5046;
-
-pub const IN: usize = 0x494e;
-
-pub const OR: usize = 0x4f52;
-
-pub const OS: usize = 0x4f53;
-
-pub const OI: usize = 0x4f49;
-
-pub const OF: usize = 0x4f46;
-
-pub const OD: usize = 0x4f44;
-
-pub const OX: usize = 0x4f58;
-
-pub const LL: usize = 0x4c4c;
-
-pub const LI: usize = 0x4c49;
-
-pub const LD: usize = 0x4c44;
-
-pub const LC: usize = 0x4c43;
-
-pub const LT: usize = 0x4c54;
+ghost use Rattle.records.specs.Marks.{lettersOf};
+ghost use Rattle.checker.specs.Checker.{wellFormedBytes, fieldIn, whole, passes, nextPass, heightOf, stackOf, checkedOf, passedOf};
 
 // What stands of a statement: expressions, operands above them, expressions above those; and whether a line record has closed it.
 struct Stack {
@@ -67,23 +51,9 @@ enum Passed {
     Bad,
 }
 
-// Two letters as a mark.
-pub fn marked(a: u8, b: u8) -> usize
-    ensures { λ r. ⌜ lettersOf r ≡ a ∷ b ∷ [] ⌝ }
-{
-    256 * (a as usize) + b as usize
-}
-
-// Four bytes as a number, low first.
-pub fn joined(a: u8, b: u8, c: u8, d: u8) -> usize
-    ensures { λ r. ⌜ (r ≡ a + 256 * (b + 256 * (c + 256 * d))) × (r < 4294967296) ⌝ }
-{
-    a as usize + 256 * (b as usize + 256 * (c as usize + 256 * (d as usize)))
-}
-
 // A field, or 0 where the bytes end before it does.
 fn field(s: &[u8], i: u8) -> usize
-    ensures { λ r. ⌜ (r ≡ fieldAt i (now (s .entry))) × (r < 4294967296) ⌝ }
+    ensures { λ r. ⌜ (r ≡ fieldIn i (now (s .entry))) × (r < 4294967296) ⌝ }
 {
     let at = 4 * (i as usize);
     if s.len() < at + 4 {
@@ -159,7 +129,7 @@ fn to_line(n: usize, m: usize, k: Stack) -> Checked
 
 // `times` behind its content's line record: the expression below is its count.
 fn to_times(k: Stack) -> Checked
-    ensures { λ r. ⌜ checkedOf r ≡ rules.checked 0 (stackOf k) LT ⌝ }
+    ensures { λ r. ⌜ checkedOf r ≡ rules.makes (stackOf k) aTimes [] ⌝ }
 {
     if k.closed & (0 < k.before) {
         return Checked::Good(counted(k, k.before - 1, 0, 0, true));
@@ -230,12 +200,12 @@ fn check(mark: usize, s: &[u8], length: usize, k: Stack) -> Passed
         OI => given(s, 8, ok, to_operand(1, k)),
         OF => given(s, 8, ok, to_operand(2, k)),
         OD => {
-            let good = ok & (field(s, 2) <= 2) & (field(s, 3) <= 4);
+            let good = ok & (field(s, 2) < 3) & (field(s, 3) < 5);
             given(s, 16, good, to_operand(1, k))
         }
         OX => {
             let d = field(s, 3);
-            let good = ok & (field(s, 2) < 8) & (d <= 1) & (field(s, 4) <= 2) & (field(s, 5) <= 4);
+            let good = ok & (field(s, 2) < 8) & (d < 2) & (field(s, 4) < 3) & (field(s, 5) < 5);
             given(s, 24, good, to_operand(d, k))
         }
         LL => given(s, 8, ok, to_line(0, 0, k)),
@@ -245,7 +215,7 @@ fn check(mark: usize, s: &[u8], length: usize, k: Stack) -> Passed
             given(
                 s,
                 24,
-                ok & (field(s, 2) < 99) & (n <= 2) & operands,
+                ok & (field(s, 2) < 99) & (n < 3) & operands,
                 to_line(0, n, k),
             )
         }
@@ -255,7 +225,7 @@ fn check(mark: usize, s: &[u8], length: usize, k: Stack) -> Passed
             given(s, 12 + count, ok & (0 < count), to_line(0, 0, k))
         }
         LC => given(s, 8, ok, to_line(1, 0, k)),
-        LT => given(s, 8, (f == 0) & (t == 0), to_times(k)),
+        LT => given(s, 8, (f < 1) & (t < 1), to_times(k)),
         _ => Passed::Bad,
     }
 }

@@ -1,13 +1,13 @@
 -- Tokens counted one after the other.
 -- Assumes nothing.
 use Prim.Native.Nat.{ℕ, zero, suc, pred, _+_, _≤_, _<_}
-use mathlib.Core.Path.{_≡_, refl, sym, ap, _∙_}
+use mathlib.Core.Path.{_≡_, refl, ap, _∙_}
 use mathlib.Core.List.{List, [], _∷_}
 use native.Mathlib.Omega.{arith}
-use lib.ListN.{length, drop, getD, length-drop, drop-of-length-le}
+use lib.ListN.{length, drop, length-drop, drop-of-length-le}
 use lib.Seq.{drop-cons, drop-drop}
 use Rattle.lexer.specs.Tokens.{tokenAt, sizeOf}
-use Rattle.parser.proofs.Stream.{bounds}
+use Rattle.state.proofs.Stream.{bounds}
 use Rattle.laqhoncu.specs.Counted.{countFrom}
 
 count-skip : (k : ℕ) (s : List ℕ) → k ≤ length s → countFrom k s ≡ countFrom 0 (drop k s)

@@ -1,6 +1,6 @@
 -- Tokens and names as the numbers that Rust and C take.
 use Prim.Native.Nat.{ℕ, _+_}
-use mathlib.Core.Bool.{Bool, true, false}
+use mathlib.Core.Bool.{true, false}
 use lib.IntN.{ℤ, pos}
 use Rattle.lexer.specs.Tokens.{faultNumber}
 use Rattle.lexer.specs.Scanned.{character, endOfFile, newLine, whitespace, comment, identifier, number, closed, unclosed, invalid}

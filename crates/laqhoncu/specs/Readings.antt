@@ -1,4 +1,4 @@
--- The answers of the calls as the numbers that Rust and C take: document 01's number, span and registers of each case.
+-- The answers of the calls as the numbers that Rust and C take: number, span and registers of each case (RULES 9.1, 11.1).
 use Prim.Native.Nat.{ℕ, _*_, _≤_}
 use mathlib.Core.Path.{_≡_}
 use mathlib.Core.Bool.{true, false}
@@ -8,12 +8,14 @@ use lib.IntN.{ℤ, pos}
 use lib.ListN.{length, take}
 use Rattle.lexer.specs.Text.{if_then_else_, maybe}
 use Rattle.lexer.specs.Scanned.{endOfFile}
-use Rattle.rules.specs.Calls.{Result, gives, refuses}
+use Rattle.rules.specs.Statements.{present}
+use Rattle.rules.specs.Calls.{Result, gives, refuses, fullRead, fullBuffer}
+use Rattle.reader.specs.Calls.{fullAnswer}
 use Rattle.rules.specs.Evaluate.{evaluate}
 use Rattle.rules.specs.Decode.{decode}
 use Rattle.rules.specs.WellFormed.{wellFormed}
-use Rattle.parser.specs.declared.state.Refusal.{Refusal}
-use Rattle.parser.specs.Views.{numbersOf}
+use Rattle.refusals.specs.declared.Refusal.{Refusal}
+use Rattle.rules.specs.Reader.{numbersOf}
 use Rattle.reader.specs.declared.FullAnswer.{FullAnswer}
 use Rattle.reader.specs.declared.FullAnswer.the-variants as answer
 use Rattle.reader.specs.declared.StatementAnswer.{StatementAnswer}
@@ -52,6 +54,12 @@ pub record Written (s l : List ℕ) (r : FullReading) : Type 0 where
   pub bounded : r .length ≤ 18 * length s
   pub formed : maybe (decode (take (r .length) l)) false (wellFormed (length s)) ≡ true
 
+-- THE FULL READ, of both functions: the answer, what the buffer holds afterwards, and what holds of it.
+pub record FullReads (s l l′ : List ℕ) (r : FullReading) : Type 0 where
+  pub answer : r ≡ fullReading (fullAnswer (fullRead present s (length l)))
+  pub buffer : l′ ≡ fullBuffer present s l
+  pub written : Written s l′ r
+
 abbrev pub one : Numbers → ℕ → ℕ → ℕ → StatementReading
 one refusal found length ahead = record { refusal = refusal; found = found; length = length; ahead = ahead }
 
@@ -81,7 +89,7 @@ abbrev pub valued : Result ℤ → Valuation
 valued (gives z) = value (numbered 0) z
 valued (refuses c) = value (numbers (numbersOf c)) (pos 0)
 
--- The operator of a number on two numbers; a number that is no operator's is 255, which is none of document 01's.
+-- The operator of a number on two numbers; a number that is no operator's is 255, which is none of the reading's (RULES 9.6).
 unfoldable pub valuation : ℕ → ℤ → ℤ → Valuation
 valuation op a b =
     if eqb op 0 then (valued (evaluate 0 a b))

@@ -8,13 +8,18 @@ use lexer::Token;
 use names::Directive;
 use names::Found;
 use names::Name;
-use parser::expressions::Evaluated;
-use parser::expressions::Operator;
-use parser::state::Refusal;
+use operators::Evaluated;
+use operators::Operator;
 use patch::PatchAnswer;
 use reader::FullAnswer;
 use reader::StatementAnswer;
 use reader::TokenAnswer;
+use refusals::ACCEPTED;
+use refusals::BEYOND_32_BITS;
+use refusals::NO_REGISTER;
+use refusals::NO_SUCH_OPERATOR;
+use refusals::Refusal;
+use refusals::ZERO_DIVISOR;
 ghost use Rattle.laqhoncu.specs.Counted.{countFrom};
 ghost use mathlib.Core.Path.{_≡_};
 ghost use lib.ListN.{length, drop};
@@ -26,13 +31,13 @@ ghost use Rattle.rules.specs.Statements.{present};
 ghost use Rattle.rules.specs.Calls as rules;
 ghost use Rattle.rules.specs.Evaluate.{evaluate};
 ghost use Rattle.rules.specs.Patch.{patch as patchCall, patchSource, patchListing};
-ghost use Rattle.parser.specs.Operators.{operatorNumber, resultOf};
-ghost use Rattle.reader.specs.Calls.{tokenAnswer, statementAnswer, fullAnswer};
+ghost use Rattle.operators.specs.Operators.{operatorNumber, resultOf};
+ghost use Rattle.reader.specs.Calls.{tokenAnswer, statementAnswer};
 ghost use Rattle.patch.specs.Patched.{patchAnswer, AsFullRead};
 ghost use Rattle.laqhoncu.specs.Found as spec;
 ghost use Rattle.laqhoncu.specs.Found.{literalFound, tokenFound, nextFound, operationByte, nameNumber, directiveByte};
 ghost use Rattle.laqhoncu.specs.Readings as readings;
-ghost use Rattle.laqhoncu.specs.Readings.{fullReading, Written, statementReading, tokenReading, patching, valuation, valued};
+ghost use Rattle.laqhoncu.specs.Readings.{fullReading, FullReads, statementReading, tokenReading, patching, valuation, valued};
 
 // A token as numbers: its kind as in `lexer::Scanned`, a number's value or an invalid token's byte, and the place behind it.
 #[repr(C)]
@@ -197,7 +202,7 @@ pub extern "C" fn laqhoncu_directive(word: &[u8]) -> u8
     directive_byte(d)
 }
 
-// A refusal as document 01 numbers it; number 0 is none. A register that is not there is 255.
+// A refusal as RULES 11.1 numbers it; number 0 is none. A register that is not there is 255.
 #[repr(C)]
 pub struct Numbers {
     pub number: u32,
@@ -252,8 +257,8 @@ fn numbered(number: u32) -> Numbers
         number: number,
         from: 0,
         to: 0,
-        first: 255,
-        second: 255,
+        first: NO_REGISTER,
+        second: NO_REGISTER,
     }
 }
 
@@ -274,7 +279,7 @@ fn full_reading(a: FullAnswer) -> FullReading
 {
     match a {
         FullAnswer::Written(n) => FullReading {
-            refusal: numbered(0),
+            refusal: numbered(ACCEPTED),
             length: n,
         },
         FullAnswer::Refused(r) => FullReading {
@@ -287,11 +292,18 @@ fn full_reading(a: FullAnswer) -> FullReading
 // The listing of a source, written into `out` if there is room for all of it.
 #[no_mangle]
 pub extern "C" fn laqhoncu_full_read(source: &[u8], out: &mut [u8]) -> FullReading
-    ensures answer { λ r. ⌜ r ≡ fullReading (fullAnswer (rules.fullRead present (now (source .entry)) (length (now (out .entry))))) ⌝ }
-    ensures buffer { λ _. ⌜ now (out .exit) ≡ rules.fullBuffer present (now (source .entry)) (now (out .entry)) ⌝ }
-    ensures written { λ r. ⌜ Written (now (source .entry)) (now (out .exit)) r ⌝ }
+    ensures { λ r. ⌜ FullReads (now (source .entry)) (now (out .entry)) (now (out .exit)) r ⌝ }
 {
     let a = reader::full_read(source, out);
+    full_reading(a)
+}
+
+// The same for a short stack: the source is read twice.
+#[no_mangle]
+pub extern "C" fn laqhoncu_full_read_lean(source: &[u8], out: &mut [u8]) -> FullReading
+    ensures { λ r. ⌜ FullReads (now (source .entry)) (now (out .entry)) (now (out .exit)) r ⌝ }
+{
+    let a = reader::full_read_lean(source, out);
     full_reading(a)
 }
 
@@ -300,13 +312,13 @@ fn statement_reading(a: StatementAnswer) -> StatementReading
 {
     match a {
         StatementAnswer::Written(n, p) => StatementReading {
-            refusal: numbered(0),
+            refusal: numbered(ACCEPTED),
             found: 1,
             length: n,
             ahead: p,
         },
         StatementAnswer::NoneLeft => StatementReading {
-            refusal: numbered(0),
+            refusal: numbered(ACCEPTED),
             found: 0,
             length: 0,
             ahead: 0,
@@ -339,7 +351,7 @@ fn token_reading(a: TokenAnswer) -> TokenReading
 {
     match a {
         TokenAnswer::Read(t, c) => TokenReading {
-            refusal: numbered(0),
+            refusal: numbered(ACCEPTED),
             token: token_at_end(t, c.pos),
         },
         TokenAnswer::Refused(r) => TokenReading {
@@ -363,7 +375,7 @@ fn patching_of(a: PatchAnswer) -> Patching
 {
     match a {
         PatchAnswer::Written(s, l) => Patching {
-            refusal: numbered(0),
+            refusal: numbered(ACCEPTED),
             source: s,
             listing: l,
         },
@@ -385,9 +397,12 @@ pub extern "C" fn laqhoncu_patch(
     source: &mut [u8],
     out: &mut [u8],
 ) -> Patching
-    ensures answer { λ r. ⌜ r ≡ patching (patchAnswer (patchCall present (now (old .entry)) (now (listing .entry)) place (now (text .entry)) (length (now (source .entry))) (length (now (out .entry))))) ⌝ }
-    ensures source { λ _. ⌜ now (source .exit) ≡ patchSource (patchCall present (now (old .entry)) (now (listing .entry)) place (now (text .entry)) (length (now (source .entry))) (length (now (out .entry)))) (now (source .entry)) ⌝ }
-    ensures listing { λ _. ⌜ now (out .exit) ≡ patchListing (patchCall present (now (old .entry)) (now (listing .entry)) place (now (text .entry)) (length (now (source .entry))) (length (now (out .entry)))) (now (out .entry)) ⌝ }
+    ensures answer { λ r. ⌜ r ≡ patching (patchAnswer (patchCall present (now (old .entry)) (now (listing .entry)) place (now (text .entry))
+        (length (now (source .entry))) (length (now (out .entry))))) ⌝ }
+    ensures source { λ _. ⌜ now (source .exit) ≡ patchSource (patchCall present (now (old .entry)) (now (listing .entry)) place (now (text .entry))
+        (length (now (source .entry))) (length (now (out .entry)))) (now (source .entry)) ⌝ }
+    ensures listing { λ _. ⌜ now (out .exit) ≡ patchListing (patchCall present (now (old .entry)) (now (listing .entry)) place (now (text .entry))
+        (length (now (source .entry))) (length (now (out .entry)))) (now (out .entry)) ⌝ }
     ensures demand_3 { λ r. ⌜ AsFullRead patching (now (old .entry)) (now (listing .entry)) place (now (text .entry))
         (now (source .entry)) (now (source .exit)) (now (out .entry)) (now (out .exit)) r ⌝ }
 {
@@ -400,15 +415,15 @@ fn valuation_of(e: Evaluated) -> Valuation
 {
     match e {
         Evaluated::Value(v) => Valuation {
-            refusal: numbered(0),
+            refusal: numbered(ACCEPTED),
             value: v,
         },
         Evaluated::Beyond => Valuation {
-            refusal: numbered(50),
+            refusal: numbered(BEYOND_32_BITS),
             value: 0,
         },
         Evaluated::ZeroDivisor => Valuation {
-            refusal: numbered(51),
+            refusal: numbered(ZERO_DIVISOR),
             value: 0,
         },
     }
@@ -439,7 +454,7 @@ pub extern "C" fn laqhoncu_evaluate(operator: u8, left: i32, right: i32) -> Valu
         return evaluated(Operator::Divide, left, right);
     }
     Valuation {
-        refusal: numbered(255),
+        refusal: numbered(NO_SUCH_OPERATOR),
         value: 0,
     }
 }

@@ -86,7 +86,7 @@ unfolding digits numeral
 digits-sized c base ds n =
     either (Sized c n) (all (λ d. ltb (digit d) base) ds && leb (valueFrom 0 base ds) largest) (numeral n (valueFrom 0 base ds)) (stray c) (inl refl) (inr refl)
 
--- So is what document 01's order gives a run whose last character is a suffix.
+-- So is what the base rules' order (RULES 14.2) gives a run whose last character is a suffix.
 last-sized : (c n : ℕ) (ds cut : List ℕ) (z : TokenRead) → (anyOf "bB" (last ds) || anyOf "dD" (last ds)) ≡ true → Sized c n (suffixLast c n ds cut z)
 unfolding suffixLast
 last-sized c n ds cut z h =

@@ -1,4 +1,4 @@
--- Every token that document 02 has not changed is document 01's.
+-- Every token that RULES 14.1 and 14.2 leave alone is the base rules'.
 use mathlib.Core.Path.{_≡_, refl, sym, ap, _∙_}
 use mathlib.Core.Bool.{true, false, false≢true}
 use mathlib.Core.List.{List, [], _∷_}
@@ -24,7 +24,7 @@ others (c ∷ cs) h =
     let (d, l) = off (dotFollows (c ∷ cs)) _ h in
     same-with c cs isWordPart isPlainPart suffixed lastFirst (number-same c cs l) (name-same c cs d)
 
--- The original's number has document 01's order, and its name is the one without dots.
+-- The original's number has the base rules' order (RULES 14.2), and its name is the one without dots.
 number : (c : ℕ) (cs : List ℕ) → letterFollows (c ∷ cs) ≡ true → originalToken (c ∷ cs) ≡ lastFirstToken (c ∷ cs)
 unfolding originalToken lastFirstToken
 number c cs h =

@@ -14,7 +14,7 @@ use borrow.Author.Tests.{eqb-true, eqb-false, le-leb, lt-leb, leb-true, lt-ltb, 
 use Rattle.lexer.specs.Text.{if_then_else_, within, isDigit, isHexDigit, run, all, digit, valueFrom, openText}
 use Rattle.lexer.specs.Tokens.{largest}
 use Rattle.lexer.specs.Runs.{areHexDigits, valuedFrom}
-use Rattle.lexer.specs.declared.text.Value.the-variants.{Fits, Beyond}
+use Rattle.lexer.specs.declared.characters.Value.the-variants.{Fits, Beyond}
 
 pub both : (a b : Bool) → (a && b) ≡ true → (a ≡ true) × (b ≡ true)
 both true b h = (refl, h)

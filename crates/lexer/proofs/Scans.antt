@@ -18,7 +18,7 @@ use Rattle.lexer.specs.declared.Fault.the-variants.{LargerDigit, TooLarg
 use Rattle.lexer.specs.declared.Token.the-variants.{Whitespace, Identifier, Comment, NewLine}
 use Rattle.lexer.specs.declared.TokenRead.{TokenRead}
 use Rattle.lexer.specs.declared.TokenRead.the-variants.{Read, Refused}
-use Rattle.lexer.specs.declared.text.Value.the-variants.{Fits, Beyond}
+use Rattle.lexer.specs.declared.characters.Value.the-variants.{Fits, Beyond}
 use Rattle.lexer.proofs.Branches.{branch, alike}
 use Rattle.lexer.proofs.Runs.{below, below-all, run-le, run-all, run-ends}
 

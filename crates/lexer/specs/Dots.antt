@@ -1,4 +1,4 @@
--- Dots in names, and which tokens they change. Document 02, Ask 2: after its first character a name may hold a dot; a dot that starts a token
+-- Dots in names, and which tokens they change. RULES 2.3: after its first character a name may hold a dot; a dot that starts a token
 -- stays punctuation. The rule itself is `isWordPart`, in Text.
 use mathlib.Core.Path.{_≡_}
 use mathlib.Core.Bool.{Bool, true, false, _&&_, _||_}
@@ -11,8 +11,8 @@ use Rattle.lexer.specs.Tokens.{mark, suffixed, tokenWith, tokenAt, sizeO
 use Rattle.lexer.specs.declared.PunctuationKind.the-variants.{Dot}
 use Rattle.lexer.specs.declared.TokenRead.{TokenRead}
 
--- The token with document 01's names, which are the Rust's: a name goes on with letters, digits and `_`. All else is as in `tokenAt`. Nothing is
--- read so; it is here to be compared with.
+-- The token with the base rules' names (RULES 14.1), which are the original's: a name goes on with letters, digits and `_`. All else is as in `tokenAt`.
+-- Nothing is read so; it is here to be compared with.
 unfoldable pub isPlainPart : ℕ → Bool
 isPlainPart c = isLetter c || isDigit c
 

@@ -1,4 +1,4 @@
--- Samples of document 01's section "Tokens" as document 02 has it, computed: numbers and names, where a row that does not hold is named, and all the
+-- Samples of RULES 2.8, computed: numbers and names, where a row that does not hold is named, and all the
 -- digits.
 use mathlib.Core.Path.{_≡_, refl}
 use mathlib.Core.List.{List, [], _∷_}
@@ -56,7 +56,7 @@ pub known : Agree samples
 unfolding openTokens samples Agree
 known = (refl, (refl, (refl, (refl, (refl, (refl, (refl, (refl, (refl, (refl, (refl, (refl, (refl, (refl, (refl, (refl, (refl, tt)))))))))))))))))
 
--- A name takes the dots behind its first character, as many as stand there; a dot that starts a token is punctuation. Document 02, Ask 2.
+-- A name takes the dots behind its first character, as many as stand there; a dot that starts a token is punctuation. RULES 2.3.
 unfoldable pub dots : List Sample
 dots =
     "w12.a equ 5" begins Read (Identifier 5)
@@ -71,14 +71,14 @@ pub dots-known : Agree dots
 unfolding openTokens dots Agree
 dots-known = (refl, (refl, (refl, (refl, (refl, (refl, tt))))))
 
--- By document 01's names a name ends before its first dot.
+-- By the base rules' names (RULES 14.1) a name ends before its first dot.
 pub plain-known : (plainToken (bytes "w12.a equ 5") ≡ Read (Identifier 3)) × (plainToken (bytes "_a1 .b") ≡ Read (Identifier 3))
     × (plainToken (bytes ".a") ≡ mark Dot)
 unfolding openTokens openDots
 plain-known = (refl, refl, refl)
 
--- By document 01's order the run's last character is looked at before the letter behind it: 2, 30, Invalid, 1, 29; else the token is the same. One
--- that is too large in both bases is Invalid by both.
+-- By the base rules' order (RULES 14.2) the run's last character is looked at before the letter behind it: 2, 30, Invalid, 1, 29; else the token is the
+-- same. One that is too large in both bases is Invalid by both.
 pub last-first-known : (lastFirstToken (bytes "10bh") ≡ numeral 3 2) × (lastFirstToken (bytes "0abh") ≡ Refused 3 LargerDigit)
     × (lastFirstToken (bytes "0adH") ≡ stray 48) × (lastFirstToken (bytes "1bo") ≡ numeral 2 1) × (lastFirstToken (bytes "29Dh") ≡ numeral 3 29)
     × (lastFirstToken (bytes "17o") ≡ numeral 3 15) × (lastFirstToken (bytes "0bh") ≡ numeral 1 0)

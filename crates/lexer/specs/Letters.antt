@@ -1,4 +1,4 @@
--- The letter behind the digits, and which tokens it changes. Document 02, Ask 4: an o, O, h or H directly behind the run is looked at first, and
+-- The letter behind the digits, and which tokens it changes. RULES 2.5: an o, O, h or H directly behind the run is looked at first, and
 -- the run then stays whole. The rule itself is `inBase`, in Tokens.
 use mathlib.Core.Path.{_≡_}
 use mathlib.Core.Bool.{Bool, true, false, not, _&&_}
@@ -25,8 +25,8 @@ behindRun s = getD s (run isHexDigit s) 0
 unfoldable pub letterFollows : List ℕ → Bool
 letterFollows s = beginsRun s && (anyOf "bBdD" (last (digitRun s)) && anyOf "oOhH" (behindRun s))
 
--- The token with document 01's order, which is the Rust's: the run's last character is looked at before the letter behind it. All else is as in
--- `tokenAt`. Nothing is read so; it is here to be compared with.
+-- The token with the base rules' order (RULES 14.2), which is the original's: the run's last character is looked at before the letter behind it. All else
+-- is as in `tokenAt`. Nothing is read so; it is here to be compared with.
 unfoldable pub lastFirst : ℕ → List ℕ → TokenRead
 lastFirst c cs =
     let s : List ℕ = c ∷ cs in

@@ -1,4 +1,4 @@
--- Document 01's token, which is the Rust's, and the tokens that document 02 leaves as they were.
+-- The base rules' token (RULES 14.1, 14.2), which is the original's, and the tokens that are the same by both.
 use mathlib.Core.Path.{_≡_}
 use mathlib.Core.Bool.{Bool, true, false, _||_}
 use mathlib.Core.List.{List}
@@ -9,11 +9,11 @@ use Rattle.lexer.specs.Dots.{isPlainPart, dotFollows}
 use Rattle.lexer.specs.Letters.{letterFollows, lastFirst}
 use Rattle.lexer.specs.declared.TokenRead.{TokenRead}
 
--- Its names hold no dots (Ask 2), and a run's last character is looked at before the letter behind it (Ask 4).
+-- Its names hold no dots (RULES 14.1), and a run's last character is looked at before the letter behind it (RULES 14.2).
 unfoldable pub originalToken : List ℕ → TokenRead
 originalToken s = tokenWith isPlainPart lastFirst s
 
--- Bytes begin with a token that document 02 may have changed.
+-- Bytes begin with a token that may be another by the base rules.
 unfoldable pub changes : List ℕ → Bool
 changes s = dotFollows s || letterFollows s
 

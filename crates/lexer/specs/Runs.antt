@@ -7,8 +7,8 @@ use lib.Dec.{eqb, leb, ltb}
 use lib.ListN.{take, drop}
 use Rattle.lexer.specs.Text.{if_then_else_, is, within, isBlank, isDigit, isHexDigit, isWordPart, all, digit, valueFrom}
 use Rattle.lexer.specs.Tokens.{largest, inQuotes, inComment}
-use Rattle.lexer.specs.declared.text.Value.{Value}
-use Rattle.lexer.specs.declared.text.Value.the-variants.{Fits, Beyond}
+use Rattle.lexer.specs.declared.characters.Value.{Value}
+use Rattle.lexer.specs.declared.characters.Value.the-variants.{Fits, Beyond}
 
 abbrev pub upToOne : ℕ → Bool
 upToOne c = leb c (code "1")

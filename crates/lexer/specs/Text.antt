@@ -1,12 +1,12 @@
--- Letters and numbers: classes of characters, runs of them, and what digits are worth. Document 01, "Tokens".
+-- Letters and numbers: classes of characters, runs of them, and what digits are worth. RULES 2.
 -- A byte is a number; a text in quotes stands for its bytes.
-use mathlib.Core.Bool.{Bool, true, false, not, _&&_, _||_}
+use mathlib.Core.Bool.{Bool, true, false, _&&_, _||_}
 use mathlib.Core.List.{List, [], _∷_}
 use mathlib.Core.Option.{Option, none, some}
-use Prim.Native.Nat.{ℕ, zero, suc, _+_, _*_, _-_}
+use Prim.Native.Nat.{ℕ, suc, _+_, _*_, _-_}
 use Prim.Native.Char.{Char, code}
 use Prim.Native.String.{String}
-use lib.Dec.{eqb, leb, ltb}
+use lib.Dec.{eqb, leb}
 
 infix 5 if_then_else_
 abbrev pub if_then_else_ {ℓ} : {A : Type ℓ} → Bool → A → A → A
@@ -45,7 +45,7 @@ isDigit c = within "0" "9" c
 unfoldable pub isHexDigit : ℕ → Bool
 isHexDigit c = isDigit c || within "a" "f" c || within "A" "F" c
 
--- A name begins with a letter or `_` and goes on with letters, digits, `_` and dots. Document 02, Ask 2: after its first character a name may
+-- A name begins with a letter or `_` and goes on with letters, digits, `_` and dots. RULES 2.3: after its first character a name may
 -- hold a dot.
 unfoldable pub isLetter : ℕ → Bool
 isLetter c = within "a" "z" c || within "A" "Z" c || is "_" c

@@ -1,15 +1,17 @@
--- The token at the head of a source's rest. Document 01, "Tokens".
+-- The token at the head of a source's rest. RULES 2.
 use mathlib.Core.Bool.{Bool, true, false, not, _&&_, _||_}
 use mathlib.Core.List.{List, [], _∷_}
-use Prim.Native.Nat.{ℕ, suc, pred, _+_, _*_, _-_}
+use Prim.Native.Nat.{ℕ, suc, pred, _+_}
 use Prim.Native.Char.{code}
 use lib.Dec.{eqb, leb, ltb}
 use lib.IntN.{pos}
 use lib.ListN.{take, getD}
-use Rattle.lexer.specs.Text.{if_then_else_, is, within, anyOf, isBlank, isDigit, isHexDigit, isLetter, isWordPart, run, all, last, digit, valueFrom, openText}
+use Rattle.lexer.specs.Text.{if_then_else_, is, within, anyOf, isBlank, isDigit, isHexDigit, isLetter, isWordPart, run, all, last, digit}
+use Rattle.lexer.specs.Text.{valueFrom, openText}
 use Rattle.lexer.specs.declared.LiteralKind.the-variants.{Number, Text}
 use Rattle.lexer.specs.declared.PunctuationKind.{PunctuationKind}
-use Rattle.lexer.specs.declared.PunctuationKind.the-variants.{CloseBracket, CloseParenthesis, Colon, Comma, Dollar, Dot, ForwardSlash, Minus, OpenBracket, OpenParenthesis, Plus, Star}
+use Rattle.lexer.specs.declared.PunctuationKind.the-variants.{CloseBracket, CloseParenthesis, Colon, Comma, Dollar, Dot, ForwardSlash, Minus}
+use Rattle.lexer.specs.declared.PunctuationKind.the-variants.{OpenBracket, OpenParenthesis, Plus, Star}
 use Rattle.lexer.specs.declared.Token.{Token}
 use Rattle.lexer.specs.declared.Token.the-variants.{Whitespace, Identifier, Literal, Punctuation, Comment, NewLine, EndOfFile, Invalid}
 use Rattle.lexer.specs.declared.Fault.{Fault}
@@ -59,7 +61,7 @@ suffixLast c n ds cut otherwise =
     else if anyOf "dD" (last ds) then digits c 10 cut n
     else otherwise
 
--- The letter behind the run is looked at first (document 02, Ask 4), then its last character; with no suffix the base is 10.
+-- The letter behind the run is looked at first (RULES 2.5), then its last character; with no suffix the base is 10.
 unfoldable pub inBase : ℕ → ℕ → List ℕ → List ℕ → ℕ → TokenRead
 inBase c n ds cut after = suffixBehind c n ds after (suffixLast c n ds cut (digits c 10 ds n))
 
@@ -115,7 +117,7 @@ markAt c =
     else if is "/" c then mark ForwardSlash
     else stray c
 
--- A token, told what a name goes on with and how a number without a prefix is read; these two document 02 has changed (Dots, Letters).
+-- A token, told what a name goes on with and how a number without a prefix is read; these two are others by the base rules (RULES 14; Dots, Letters).
 unfoldable pub tokenWith : (ℕ → Bool) → (ℕ → List ℕ → TokenRead) → List ℕ → TokenRead
 tokenWith part unprefixed [] = Read (EndOfFile 0)
 tokenWith part unprefixed (c ∷ cs) =

@@ -7,21 +7,21 @@ ghost use Rattle.lexer.specs.Text.{isDigit, isHexDigit, digit};
 ghost use Rattle.lexer.specs.Tokens.{tokenAt, numberAt, suffixed, prefixed, digits};
 ghost use Rattle.lexer.specs.Runs.{belongs, areHexDigits, afterZero};
 ghost use Rattle.lexer.specs.Scanned.{isMark, scannedOf, tokenOf, nextOf};
-use text::BLANK;
-use text::QUOTED;
-use text::REMARK;
-use text::UP_TO_ONE;
-use text::Value;
-use text::WORD;
-use text::char_at;
-use text::from_radix;
-use text::is_decimal_digit;
-use text::is_identifier_first;
-use text::is_letter;
-use text::is_whitespace;
-use text::run_end;
+use characters::BLANK;
+use characters::QUOTED;
+use characters::REMARK;
+use characters::UP_TO_ONE;
+use characters::Value;
+use characters::WORD;
+use characters::char_at;
+use characters::from_radix;
+use characters::is_decimal_digit;
+use characters::is_identifier_first;
+use characters::is_letter;
+use characters::is_whitespace;
+use characters::run_end;
 
-mod text;
+mod characters;
 
 pub enum LiteralKind {
     Number(i32),
@@ -92,9 +92,9 @@ pub const UNCLOSED: u8 = b'"';
 
 pub const INVALID: u8 = b'!';
 
-pub const LARGER_DIGIT: u8 = 30;
+pub const LARGER_DIGIT: u8 = refusals::BINARY_LARGER_DIGIT as u8;
 
-pub const TOO_LARGE: u8 = 31;
+pub const TOO_LARGE: u8 = refusals::PREFIXED_TOO_LARGE as u8;
 
 // The digits of a base behind the prefix that stands at `at`.
 fn number_literal_with_prefix(source: &[u8], at: usize, base: u8) -> Scanned

@@ -11,7 +11,7 @@ use lib.ListN.{drop}
 use borrow.Author.Tests.{eqb-true}
 use Rattle.lexer.specs.Text.{bytes, among, within, lower, same, openText}
 use Rattle.lexer.proofs.Branches.{and-split}
-use Rattle.names.specs.Names.{registers, segments, sizes, directives, placeFrom, named, spelling, operationFrom, operationNamed}
+use Rattle.names.specs.Names.{rowsIn, registers, segments, sizes, directives, placeFrom, named, spelling, operationFrom, operationNamed}
 use Rattle.names.specs.Table.{spellings, row, rowsOf, operations}
 use Rattle.names.specs.Claims.{DotsNameNothing}
 use Rattle.names.proofs.Keys.{same-eq}
@@ -67,7 +67,7 @@ none-from (suc n) w table d h =
     rw (none-same w (spelling table) d a) (none-from n w (drop 8 table) d b)
 
 -- The tests, computed.
-dotless-rows : dotlessRows 117 operations ≡ true
+dotless-rows : dotlessRows (rowsIn operations) operations ≡ true
 unfolding openText dotlessRows spelling spellings row rowsOf operations
 dotless-rows = refl
 
@@ -78,5 +78,5 @@ dots-name-nothing = record {
   segment = none-named segments refl;
   size = none-named sizes refl;
   directive = none-named directives refl;
-  operation = λ w d. none-from 117 (map lower w) operations (lower-dotted w d) dotless-rows;
+  operation = λ w d. none-from (rowsIn operations) (map lower w) operations (lower-dotted w d) dotless-rows;
 }

@@ -3,3 +3,4 @@ pub mod Rows
 pub mod Operations
 pub mod Names
 pub mod Dots
+pub mod Halves

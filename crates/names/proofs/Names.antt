@@ -1,20 +1,18 @@
 -- A word's place among names is the place of its key among theirs.
 use mathlib.Core.Path.{_≡_, refl, sym, ap, _∙_}
-use mathlib.Core.Bool.{Bool, true, false, _&&_}
+use mathlib.Core.Bool.{Bool, true, _&&_}
 use mathlib.Core.List.{List, [], _∷_, map}
-use mathlib.Core.Option.{Option, none, some}
+use mathlib.Core.Option.{none}
 use Prim.Native.Nat.{ℕ, suc, _<_}
 use Prim.Native.String.{String}
-use lib.Dec.{T, eqb}
+use lib.Dec.{T}
 use lib.ListN.{getD}
 use borrow.Author.Tests.{ne-eqb}
-use Rattle.lexer.specs.Text.{if_then_else_, bytes, lower, same, all}
-use Rattle.names.specs.declared.Name.{Name}
+use Rattle.lexer.specs.Text.{bytes, lower, all}
 use Rattle.names.specs.declared.Name.the-variants as name
-use Rattle.names.specs.declared.Directive.{Directive}
 use Rattle.names.specs.declared.Directive.the-variants as directive
-use Rattle.names.specs.Names.{registers, segments, sizes, directives, placeFrom, named, nameFrom, nameOf, directiveFrom, directiveOf}
-use Rattle.names.specs.Keys.{key, keyOf, spelled, keysOf, placeOf, nameBy, directiveBy}
+use Rattle.names.specs.Names.{registers, segments, sizes, directives, placeFrom, named, nameOf, directiveOf}
+use Rattle.names.specs.Keys.{keyOf, spelled, keysOf, placeOf, nameBy, directiveBy}
 use Rattle.names.proofs.Keys.{Bytes, both, by-key, lower-small}
 
 abbrev allSpelled : List String → Bool

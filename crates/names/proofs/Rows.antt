@@ -1,19 +1,19 @@
 -- In a good table the keys rise, so at most one row has a word's key, and the word names the operation of that row.
 use mathlib.Core.Path.{_≡_, refl, sym, ap, subst, _∙_}
-use mathlib.Core.Bool.{Bool, true, false, _&&_}
+use mathlib.Core.Bool.{true, false, _&&_}
 use mathlib.Core.List.{List, map}
 use mathlib.Core.Option.{Option, none, some}
 use Prim.Native.Nat.{ℕ, zero, suc, _+_, _*_, _≤_, _<_, suc-le-suc}
 use native.Mathlib.Nat.{le-of-suc-le-suc, not-suc-le-zero, lt-trans}
 use native.Mathlib.Omega.{arith}
-use lib.Dec.{T, eqb, ltb, eqb→eq, ltb→lt}
+use lib.Dec.{T, eqb, leb, ltb, eqb→eq, leb→le, ltb→lt}
 use lib.ListN.{getD, drop}
 use lib.Seq.{getD-drop, drop-drop}
 use borrow.Author.Tests.{eq-eqb, ne-eqb}
-use Rattle.lexer.specs.Text.{if_then_else_, maybe, lower, same}
+use Rattle.lexer.specs.Text.{maybe, lower}
 use Rattle.names.specs.declared.Directive.{Directive}
 use Rattle.names.specs.declared.Directive.the-variants as directive
-use Rattle.names.specs.Names.{directives, directiveFrom, spelling, operationFrom, operationNamed}
+use Rattle.names.specs.Names.{directives, directiveFrom, spelling, rowsIn, operationFrom, operationNamed}
 use Rattle.names.specs.Keys.{key, keyAt, keyOf, spelled, keysOf, placeOf, directiveBy, operationFromKey, operationBy, goodFrom, apartFrom, goodTable}
 use Rattle.names.proofs.Keys.{Bytes, both, by-key, lower-small}
 
@@ -51,16 +51,29 @@ rise (suc n) p t g (suc i) (suc j) l h =
 
 -- the two tests of a good table
 module _ (t : List ℕ) (g : goodTable t ≡ true) where
-  tests : T (goodFrom 117 0 t) × T (apartFrom 117 t)
+  tests : T (ltb 0 (rowsIn t) && leb (rowsIn t) 128 && goodFrom (rowsIn t) 0 t) × T (apartFrom (rowsIn t) t)
   unfolding goodTable
-  tests = both (goodFrom 117 0 t) (apartFrom 117 t) (subst T (sym g) tt)
+  tests = both (ltb 0 (rowsIn t) && leb (rowsIn t) 128 && goodFrom (rowsIn t) 0 t) (apartFrom (rowsIn t) t) (subst T (sym g) tt)
 
-  pub rising : (i j : ℕ) → i < j → j < 117 → keyAt t i < keyAt t j
-  rising = rise 117 0 t (tests .0)
+  sizes : T (ltb 0 (rowsIn t) && leb (rowsIn t) 128) × T (goodFrom (rowsIn t) 0 t)
+  sizes = both (ltb 0 (rowsIn t) && leb (rowsIn t) 128) (goodFrom (rowsIn t) 0 t) (tests .0)
+
+  rows-good : T (goodFrom (rowsIn t) 0 t)
+  rows-good = sizes .1
+
+  -- it has a row, and few
+  pub a-row : 0 < rowsIn t
+  a-row = ltb→lt 0 (rowsIn t) (both (ltb 0 (rowsIn t)) (leb (rowsIn t) 128) (sizes .0) .0)
+
+  pub few-rows : rowsIn t ≤ 128
+  few-rows = leb→le (rowsIn t) 128 (both (ltb 0 (rowsIn t)) (leb (rowsIn t) 128) (sizes .0) .1)
+
+  pub rising : (i j : ℕ) → i < j → j < rowsIn t → keyAt t i < keyAt t j
+  rising = rise (rowsIn t) 0 t rows-good
 
   -- no row has the key 0
-  pub positive : (k : ℕ) → k < 117 → 0 < keyAt t k
-  positive = above 117 0 t (tests .0)
+  pub positive : (k : ℕ) → k < rowsIn t → 0 < keyAt t k
+  positive = above (rowsIn t) 0 t rows-good
 
 -- What is found by a key.
 module _ (x : ℕ) where
@@ -84,18 +97,18 @@ module _ (x : ℕ) where
 -- A key that is looked up in a good table.
 module _ (t : List ℕ) (g : goodTable t ≡ true) (x : ℕ) where
   -- k is the one row that may have it
-  module _ (k : ℕ) (h : k < 117) where
+  module _ (k : ℕ) (h : k < rowsIn t) where
     pub there : keyAt t k ≡ x → some (getD t (8 * k + 7) 0) ≡ operationBy t x
     unfolding operationBy
-    there e = sym (present x 117 0 t (tests t g .0) k h e)
+    there e = sym (present x (rowsIn t) 0 t (rows-good t g) k h e)
 
-    pub nowhere : ((i : ℕ) → i < 117 → keyAt t i ≡ x → i ≡ k) → (keyAt t k ≡ x → ⊥) → none ≡ operationBy t x
+    pub nowhere : ((i : ℕ) → i < rowsIn t → keyAt t i ≡ x → i ≡ k) → (keyAt t k ≡ x → ⊥) → none ≡ operationBy t x
     unfolding operationBy
-    nowhere only differs = sym (absent x 117 t (λ i l e. differs (ap (keyAt t) (sym (only i l e)) ∙ e)))
+    nowhere only differs = sym (absent x (rowsIn t) t (λ i l e. differs (ap (keyAt t) (sym (only i l e)) ∙ e)))
 
   pub null-key : x ≡ 0 → none ≡ operationBy t x
   unfolding operationBy
-  null-key z = sym (absent x 117 t (λ k h e. let l : 0 < keyAt t k = positive t g k h in omega arith))
+  null-key z = sym (absent x (rowsIn t) t (λ k h e. let l : 0 < keyAt t k = positive t g k h in omega arith))
 
 -- A word names the operation of its key.
 module _ (v : List ℕ) (small : (i : ℕ) → getD v i 0 < 256) where
@@ -108,7 +121,7 @@ module _ (v : List ℕ) (small : (i : ℕ) → getD v i 0 < 256) where
 
 pub operates-by : (t : List ℕ) → goodTable t ≡ true → (w : List ℕ) → Bytes w → {x : ℕ} → x ≡ keyOf (map lower w) → operationBy t x ≡ operationNamed t w
 unfolding operationBy operationNamed
-operates-by t g w small e = ap (operationBy t) e ∙ same-rows (map lower w) (lower-small w small) 117 0 t (tests t g .0)
+operates-by t g w small e = ap (operationBy t) e ∙ same-rows (map lower w) (lower-small w small) (rowsIn t) 0 t (rows-good t g)
 
 -- No directive is an operation.
 free : (n : ℕ) (t : List ℕ) → T (apartFrom n t) → (k : ℕ) → k < n → T (maybe (placeOf 0 (keyAt t k) (keysOf directives)) true (λ d. false))
@@ -130,7 +143,7 @@ Directs directive.Other = ⊥
 pub directive-apart : (t : List ℕ) → goodTable t ≡ true → (x : ℕ) → Directs (directiveBy x) → none ≡ operationBy t x
 unfolding operationBy
 directive-apart t g x d =
-    sym (absent x 117 t (λ k h q. by (placeOf 0 x (keysOf directives)) d (subst (λ (i : ℕ). T (maybe (placeOf 0 i (keysOf directives)) true (λ (n : ℕ). false))) q (free 117 t (tests t g .1) k h))))
+    sym (absent x (rowsIn t) t (λ k h q. by (placeOf 0 x (keysOf directives)) d (subst (λ (i : ℕ). T (maybe (placeOf 0 i (keysOf directives)) true (λ (n : ℕ). false))) q (free (rowsIn t) t (tests t g .1) k h))))
   where
     by : (o : Option ℕ) → Directs (directiveFrom o) → T (maybe o true (λ (n : ℕ). false)) → ⊥
     by none p q = p

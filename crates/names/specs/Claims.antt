@@ -12,7 +12,7 @@ use Rattle.names.specs.Names.{registers, segments, sizes, directives, na
 pub record NamesAll (table : List ℕ) : Type 0 where
   pub word : (operation : ℕ) → operation < 99 → (w : List ℕ) × (operationNamed table w ≡ some operation)
 
--- Lookup is of the whole name: one that holds a dot names nothing, so it is a label, or a name in an expression. Document 02, Ask 2.
+-- Lookup is of the whole name: one that holds a dot names nothing, so it is a label, or a name in an expression. RULES 3.1.
 pub record DotsNameNothing (table : List ℕ) : Type 0 where
   pub register : (w : List ℕ) → among (code ".") w ≡ true → named registers w ≡ none
   pub segment : (w : List ℕ) → among (code ".") w ≡ true → named segments w ≡ none

@@ -2,14 +2,15 @@
 use mathlib.Core.Bool.{Bool, true, false, not, _&&_}
 use mathlib.Core.List.{List, [], _∷_}
 use mathlib.Core.Option.{Option, none, some}
-use Prim.Native.Nat.{ℕ, zero, suc, _+_, _*_, _-_}
+use Prim.Native.Nat.{ℕ, zero, suc, _+_, _*_, _-_, _/_}
 use lib.Dec.{eqb, leb, ltb}
 use lib.ListN.{length, getD, drop}
 use Prim.Native.String.{String}
 use Rattle.lexer.specs.Text.{if_then_else_, maybe, bytes, all}
+use Rattle.names.specs.declared.Part.{Part}
 use Rattle.names.specs.declared.Name.{Name}
 use Rattle.names.specs.declared.Directive.{Directive}
-use Rattle.names.specs.Names.{spelling, registers, segments, sizes, directives, nameFrom, directiveFrom}
+use Rattle.names.specs.Names.{spelling, rowsIn, registers, segments, sizes, directives, nameFrom, directiveFrom}
 
 -- n bytes of s as one number behind a; past the end of s they are 0
 abbrev pub joined : ℕ → ℕ → List ℕ → ℕ
@@ -22,7 +23,8 @@ seven s = joined 0 7 (getD s 0 0 ∷ getD s 1 0 ∷ getD s 2 0 ∷ getD s 3 0 �
 
 abbrev pub eight : List ℕ → ℕ → ℕ
 eight s i =
-    joined 0 8 (getD s i 0 ∷ getD s (i + 1) 0 ∷ getD s (i + 2) 0 ∷ getD s (i + 3) 0 ∷ getD s (i + 4) 0 ∷ getD s (i + 5) 0 ∷ getD s (i + 6) 0 ∷ getD s (i + 7) 0 ∷ [])
+    joined 0 8
+    (getD s i 0 ∷ getD s (i + 1) 0 ∷ getD s (i + 2) 0 ∷ getD s (i + 3) 0 ∷ getD s (i + 4) 0 ∷ getD s (i + 5) 0 ∷ getD s (i + 6) 0 ∷ getD s (i + 7) 0 ∷ [])
 
 unfoldable pub key : List ℕ → ℕ
 key s = joined 0 7 s
@@ -60,7 +62,7 @@ operationFromKey (suc n) x table =
     if eqb x (key table) then some (getD table 7 0) else r
 
 unfoldable pub operationBy : List ℕ → ℕ → Option ℕ
-operationBy table x = operationFromKey 117 x table
+operationBy table x = operationFromKey (rowsIn table) x table
 
 -- What may be looked up by its key: one to seven letters, each a byte and not zero.
 unfoldable pub spelled : List ℕ → Bool
@@ -77,6 +79,10 @@ unfoldable pub apartFrom : ℕ → List ℕ → Bool
 apartFrom zero table = true
 apartFrom (suc n) table = maybe (placeOf 0 (key table) (keysOf directives)) true (λ d. false) && apartFrom n (drop 8 table)
 
--- a table of spellings in rising order, free of repeats and of directives
+-- Of the `rows` rows from `row` on, the half that may have a key of which `most` is the largest row.
+abbrev pub half : List ℕ → ℕ → (row rows : ℕ) → Part
+half table most row rows = record { row = if leb (eight table (8 * (row + rows / 2))) most then (row + rows / 2) else row; rows = rows - rows / 2 }
+
+-- a table of 1 to 128 spellings in rising order, free of repeats and of directives
 unfoldable pub goodTable : List ℕ → Bool
-goodTable table = goodFrom 117 0 table && apartFrom 117 table
+goodTable table = ltb 0 (rowsIn table) && leb (rowsIn table) 128 && goodFrom (rowsIn table) 0 table && apartFrom (rowsIn table) table

@@ -1,11 +1,11 @@
--- What a word names: a register, a segment, a size word, a directive, an operation. Case is ignored. Documents 003 and 004.
-use mathlib.Core.Bool.{Bool, true, false, not}
+-- What a word names: a register, a segment, a size word, a directive, an operation. Case is ignored. RULES 3.
+use mathlib.Core.Bool.{not}
 use mathlib.Core.List.{List, [], _∷_, map}
 use mathlib.Core.Option.{Option, none, some}
-use Prim.Native.Nat.{ℕ, zero, suc}
+use Prim.Native.Nat.{ℕ, zero, suc, _/_}
 use Prim.Native.String.{String}
 use lib.Dec.{eqb}
-use lib.ListN.{take, drop, getD}
+use lib.ListN.{length, take, drop, getD}
 use Rattle.lexer.specs.Text.{if_then_else_, maybe, bytes, lower, same, run}
 use Rattle.names.specs.declared.Found.{Found}
 use Rattle.names.specs.declared.Found.the-variants as found
@@ -45,9 +45,13 @@ operationFrom (suc n) w table =
     let r : Option ℕ = operationFrom n w (drop 8 table) in
     if same w (spelling table) then some (getD table 7 0) else r
 
--- the operation that a word names by a table of 117 rows: that of the first row which spells it
+-- how many rows a table has
+abbrev pub rowsIn : List ℕ → ℕ
+rowsIn table = length table / 8
+
+-- the operation that a word names by a table: that of the first row which spells it
 unfoldable pub operationNamed : List ℕ → List ℕ → Option ℕ
-operationNamed table w = operationFrom 117 (map lower w) table
+operationNamed table w = operationFrom (rowsIn table) (map lower w) table
 
 -- What is found, as the code answers it.
 abbrev pub foundOf : Option ℕ → Found

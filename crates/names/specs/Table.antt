@@ -1,5 +1,5 @@
--- The table of operations. Document 01, "Modules in port order": 117 spellings of 99 operations in a fixed-width table, in rising order.
--- An operation's number is its place in `enum Operation` of document 004; every one of the 99 has a spelling (Claims: NamesAll).
+-- The table of operations. RULES 3.6, 3.7: 117 spellings of 99 operations in a fixed-width table, in rising order.
+-- An operation's number is its place among the original's operations (RULES 3.6); every one of the 99 has a spelling (Claims: NamesAll).
 use mathlib.Core.List.{List, [], _∷_, _++_}
 use Prim.Native.Nat.{ℕ}
 use Prim.Native.String.{String}
@@ -39,6 +39,6 @@ unfoldable pub rowsOf : List Spelling → List ℕ
 rowsOf [] = []
 rowsOf (s ∷ ss) = row s ++ rowsOf ss
 
--- the table as bytes: 936 of them
+-- the table as bytes
 unfoldable pub operations : List ℕ
 operations = rowsOf spellings

@@ -3,11 +3,11 @@
 ghost use mathlib.Core.Path.{_≡_};
 ghost use mathlib.Core.Bool.{true};
 ghost use mathlib.Core.List.{[], _∷_, map};
-ghost use Prim.Native.Nat.{ℕ, _+_, _*_, _<_};
+ghost use Prim.Native.Nat.{ℕ, _+_, _*_, _<_, _≤_};
 ghost use lib.ListN.{length, getD};
 ghost use Rattle.lexer.specs.Text as text;
 ghost use Rattle.names.specs.Table.{operations};
-ghost use Rattle.names.specs.Names.{operationNamed, foundOf, nameOf, directiveOf};
+ghost use Rattle.names.specs.Names.{rowsIn, operationNamed, foundOf, nameOf, directiveOf};
 ghost use Rattle.names.specs.Keys as keys;
 
 // Seven letters, filled up with zeros, and the operation's number; the rows rise.
@@ -230,8 +230,8 @@ pub fn word_key(word: &[u8]) -> u64
 }
 
 // The eight bytes of a row as one number: its key, and the operation's number behind it.
-fn row_at(table: &[u8; 936], row: usize) -> u64
-    requires { ⌜ row < 117 ⌝ }
+fn row_at(table: &[u8], row: usize) -> u64
+    requires { ⌜ row < rowsIn (now table) ⌝ }
     ensures { λ r. ⌜ (r ≡ keys.eight (now (table .entry)) (8 * row)) × (getD (now (table .entry)) (8 * row + 7) 0 < 256) ⌝ }
 {
     let i = 8 * row;
@@ -247,27 +247,53 @@ fn row_at(table: &[u8; 936], row: usize) -> u64
     )
 }
 
-// The one row that may have the key.
-fn search(table: &[u8; 936], key: u64) -> usize
+// The rows from `row` on, `rows` of them.
+struct Part {
+    row: usize,
+    rows: usize,
+}
+
+// The half that may have a key of which `most` is the largest row.
+fn halved(table: &[u8], most: u64, part: Part) -> Part
+    requires { ⌜ (1 ≤ part .rows) × (part .row + part .rows ≤ rowsIn (now table)) ⌝ }
+    ensures { λ r. ⌜ r ≡ keys.half (now (table .entry)) most (part .row) (part .rows) ⌝ }
+{
+    let half = part.rows / 2;
+    let mid = part.row + half;
+    let row = if row_at(table, mid) <= most {
+        mid
+    } else {
+        part.row
+    };
+    Part {
+        row,
+        rows: part.rows - half,
+    }
+}
+
+// The one row that may have the key. A table has at most 128 rows, which seven halvings bring down to one; in a row they take no branch.
+fn search(table: &[u8], key: u64) -> usize
     requires { ⌜ (keys.goodTable (now table) ≡ true) × (key < 0x100_0000_0000_0000) ⌝ }
-    ensures { λ r. ⌜ (r < 117) × ((k : ℕ) → k < 117 → keys.keyAt (now (table .entry)) k ≡ key → k ≡ r) ⌝ }
+    ensures { λ r. ⌜ (r < rowsIn (now (table .entry)))
+        × ((k : ℕ) → k < rowsIn (now (table .entry)) → keys.keyAt (now (table .entry)) k ≡ key → k ≡ r) ⌝ }
 {
     let most = key * 256 + 255;
-    let mut row = 0;
-    let mut rows = 117;
-    while 1 < rows {
-        let half = rows / 2;
-        let mid = row + half;
-        if row_at(table, mid) <= most {
-            row = mid;
-        }
-        rows = rows - half;
-    }
-    row
+    let part = Part {
+        row: 0,
+        rows: table.len() / 8,
+    };
+    let part = halved(table, most, part);
+    let part = halved(table, most, part);
+    let part = halved(table, most, part);
+    let part = halved(table, most, part);
+    let part = halved(table, most, part);
+    let part = halved(table, most, part);
+    let part = halved(table, most, part);
+    part.row
 }
 
 // The operation of a key by a table whose rows are spellings in rising order.
-pub fn operation_by(table: &[u8; 936], key: u64) -> Found
+pub fn operation_by(table: &[u8], key: u64) -> Found
     requires { ⌜ (keys.goodTable (now table) ≡ true) × (key < 0x100_0000_0000_0000) ⌝ }
     ensures { λ r. ⌜ r ≡ foundOf (keys.operationBy (now (table .entry)) key) ⌝ }
 {
@@ -282,7 +308,7 @@ pub fn operation_by(table: &[u8; 936], key: u64) -> Found
 }
 
 // The operation that a word names.
-pub fn operation(table: &[u8; 936], word: &[u8]) -> Found
+pub fn operation(table: &[u8], word: &[u8]) -> Found
     requires { ⌜ keys.goodTable (now table) ≡ true ⌝ }
     ensures { λ r. ⌜ r ≡ foundOf (operationNamed (now (table .entry)) (now (word .entry))) ⌝ }
 {

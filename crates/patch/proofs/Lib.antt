@@ -1,8 +1,7 @@
-pub mod Causes
-pub mod Exchanging
-pub mod LineLaws
+pub mod LeavesOpen
+pub mod Order
+pub mod Bare
 pub mod Moving
 pub mod Placing
 pub mod Rereading
-pub mod Standing
-pub mod Walking
+pub mod Planning

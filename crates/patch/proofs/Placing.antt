@@ -9,21 +9,20 @@ use borrow.Author.Tests.{lt-ltb, le-ltb}
 use lib.ListN.{length, take, drop, length-append, length-drop, drop-of-length-le}
 use lib.Seq.{take-at, drop-at, take-all, drop-drop, drop-append-add, length-take-le}
 use Rattle.rules.specs.Records.{Record, listing}
-use Rattle.rules.specs.Reader.{Refusal as Cause, nowhere}
-use Rattle.rules.specs.Calls.{Result, refuses, unless, inRoom, overwrite, leaves}
+use Rattle.rules.specs.Reader.{Cause, nowhere, numbersOf}
+use Rattle.rules.specs.Calls.{Result, gives, refuses, unless, inRoom, overwrite, leaves}
 use Rattle.rules.specs.Patch.{recordsBelow, recordsOn, Edit, exchanged, placedIn, patchSource, patchListing}
 use Rattle.rules.proofs.Records.{listing-append}
 use Rattle.rules.proofs.Reencode.{Octets}
 use Rattle.records.specs.Writes.{stores}
-use Rattle.records.proofs.Writes.{stores-room}
-use Rattle.reader.proofs.FullReads.{stored-over}
-use Rattle.parser.specs.declared.state.Refusal.{Refusal}
-use Rattle.parser.specs.Views.{numbersOf}
+use Rattle.records.proofs.Writes.{stores-room, stored-over}
+use Rattle.refusals.specs.declared.Refusal.{Refusal}
 use Rattle.patch.specs.declared.PatchAnswer.{PatchAnswer}
-use Rattle.patch.specs.declared.PatchAnswer.the-variants.{Written, Refused}
-use Rattle.patch.specs.Moves.{recordsAt, Decodes, First, movedBytes}
+use Rattle.patch.specs.declared.PatchAnswer.the-variants.{Refused}
+use Rattle.records.specs.Moves.{recordsAt, Decodes, First, movedBytes}
+use Rattle.patch.specs.Plans.{Applied}
 use Rattle.patch.specs.Patched.{Patches}
-use Rattle.patch.proofs.Moving.{moved-length, rest-length, first-decodes, first-within, first-kept, first-twice}
+use Rattle.records.proofs.Listed.{moved-length, rest-length, first-decodes, first-within, first-kept, first-twice}
 
 -- A refusal leaves both buffers.
 pub refused : {e : Result Edit} {s l : List ℕ} {r : Refusal} (c : Cause) → e ≡ refuses c → r ≡ numbersOf c → Patches e s s l l (Refused r)
@@ -33,23 +32,20 @@ refused c h k = record { answer = rw h (ap Refused k); source = rw h; listing = 
 pub same-edit : {e e′ : Result Edit} {s s′ l l′ : List ℕ} {r : PatchAnswer} → e ≡ e′ → Patches e′ s s′ l l′ r → Patches e s s′ l l′ r
 same-edit h p = rw h p
 
-module _ (s l ed : List ℕ) (w : List Record) where
-  pub no-source : {r : Refusal} → length s < length ed → r ≡ numbersOf (nowhere 6) → Patches (placedIn (length s) (length l) ed w) s s l l (Refused r)
+-- 6 and 4, and neither.
+module _ (roomS roomL : ℕ) (ed : List ℕ) (w : List Record) where
+  pub no-source : roomS < length ed → placedIn roomS roomL ed w ≡ refuses (nowhere 6)
   unfolding placedIn unless
-  no-source h k = refused (nowhere 6) (rw (lt-ltb (length s) (length ed) h)) k
+  no-source h = rw (lt-ltb roomS (length ed) h)
 
-  pub no-listing : {r : Refusal} → length ed ≤ length s → length l < length (listing w) → r ≡ numbersOf (nowhere 4) → Patches (placedIn (length s) (length l) ed w) s s l l (Refused r)
-  unfolding placedIn unless inRoom
-  no-listing h i k = refused (nowhere 4) (rw (le-ltb (length s) (length ed) h, lt-ltb (length l) (length (listing w)) i)) k
+  module _ (h : length ed ≤ roomS) where
+    pub no-listing : roomL < length (listing w) → placedIn roomS roomL ed w ≡ refuses (nowhere 4)
+    unfolding placedIn unless inRoom
+    no-listing i = rw (le-ltb roomS (length ed) h, lt-ltb roomL (length (listing w)) i)
 
-  pub placed : {s′ l′ : List ℕ} {n : ℕ} → length ed ≤ length s → length (listing w) ≤ length l → s′ ≡ overwrite ed s → l′ ≡ overwrite (listing w) l → n ≡ length (listing w)
-      → Patches (placedIn (length s) (length l) ed w) s s′ l l′ (Written (length ed) n)
-  unfolding placedIn unless inRoom patchSource patchListing leaves
-  placed h i e f k = record {
-    answer = rw (le-ltb (length s) (length ed) h, le-ltb (length l) (length (listing w)) i) (ap (Written (length ed)) k);
-    source = rw (le-ltb (length s) (length ed) h, le-ltb (length l) (length (listing w)) i) e;
-    listing = rw (le-ltb (length s) (length ed) h, le-ltb (length l) (length (listing w)) i) f;
-  }
+    pub placed : length (listing w) ≤ roomL → placedIn roomS roomL ed w ≡ gives (record { source = ed; records = w })
+    unfolding placedIn unless inRoom
+    placed i = rw (le-ltb roomS (length ed) h, le-ltb roomL (length (listing w)) i)
 
 -- The parts of an old listing: the bytes up to `below` are kept, those from `on` on moved.
 pub record Parts (l : List ℕ) (a p below on : ℕ) : Type 0 where
@@ -109,18 +105,14 @@ module _ {old : List ℕ} {a p below on : ℕ} (P : Parts old a p below on) (q :
       let e = ap length (exchanged-bytes a p q rs w) ∙ length-append (listing (recordsBelow a rs)) (listing w ++ movedBytes q p (recordsOn (a + p) rs)) in
       omega (arith, e, length-append (listing w) (movedBytes q p (recordsOn (a + p) rs)), moved-length q p (recordsOn (a + p) rs), P .first, P .all)
 
-  pub no-room : (s l ed : List ℕ) {r : Refusal} {n : ℕ} → n ≡ length (listing w) → length ed ≤ length s → length l < below + n + (length old - on) → r ≡ numbersOf (nowhere 4)
-      → Patches (placedIn (length s) (length l) ed (exchanged a p q rs w)) s s l l (Refused r)
-  no-room s l ed k h i e = no-listing s l ed (exchanged a p q rs w) h (omega (arith, size-is k)) e
-
   pub written : (s l ed : List ℕ) {s′ l′ l₂ part : List ℕ} {n : ℕ} → n ≡ length (listing w) → length ed ≤ length s → below + n + (length old - on) ≤ length l → s′ ≡ stores s 0 ed
       → part ≡ stores (take (length l - below) (drop below l)) 0 (listing w) → l₂ ≡ stores (take below l ++ (part ++ drop (length l - below) (drop below l))) 0 (take (below - 0) old)
       → l′ ≡ stores l₂ (below + n) (movedBytes q p (recordsAt old on))
-      → Patches (placedIn (length s) (length l) ed (exchanged a p q rs w)) s s′ l l′ (Written (length ed) (below + n + (length old - on)))
+      → Applied ed (exchanged a p q rs w) s s′ l l′ (below + n + (length old - on))
   written s l ed {l₂ = l₂} {part = part} {n = n} k h i e f g j =
       let m : List ℕ = movedBytes q p (recordsOn (a + p) rs) in
       let z = moved-length q p (recordsOn (a + p) rs) in
       let b : below - 0 ≡ below = omega arith in
       let o = assembled l (listing (recordsBelow a rs)) (listing w) m (P .first) (ap (λ (x : ℕ). below + x) k) (omega (arith, P .all)) f
       (g ∙ ap (stores (take below l ++ (part ++ drop (length l - below) (drop below l))) 0) (ap (λ (x : ℕ). take x old) b ∙ P .kept)) (j ∙ ap (λ (r : List Record). stores l₂ (below + n) (movedBytes q p r)) (P .rest)) in
-      placed s l ed (exchanged a p q rs w) h (omega (arith, size-is k)) (e ∙ stored-over s ed h) (o ∙ ap (λ (b : List ℕ). overwrite b l) (sym (exchanged-bytes a p q rs w))) (size-is k)
+      record { source = e ∙ stored-over s ed h; listed = o ∙ ap (λ (b : List ℕ). overwrite b l) (sym (exchanged-bytes a p q rs w)); size = size-is k }

@@ -15,10 +15,10 @@ use Rattle.lexer.specs.Tokens.{inComment}
 use Rattle.lexer.proofs.Runs.{run-le}
 use Rattle.names.specs.Table.{operations}
 use Rattle.rules.specs.Records.{Record, listing}
-use Rattle.rules.specs.Reader.{Refusal as Cause}
+use Rattle.rules.specs.Reader.{Cause, numbersOf}
 use Rattle.rules.specs.Statements.{present, Outcome, accepted, refusal, readFrom}
-use Rattle.rules.specs.Calls.{foreign}
-use Rattle.rules.specs.Patch.{above, lineAt, behind, edited, exchanged, placedIn, reread}
+use Rattle.rules.specs.Calls.{foreign, Result}
+use Rattle.rules.specs.Patch.{Edit, above, lineAt, behind, edited, exchanged, placedIn, reread}
 use Rattle.rules.proofs.Shape.{small-parts}
 use Rattle.rules.proofs.Table.{proper}
 use Rattle.rules.proofs.Bound.{bounded-from}
@@ -26,18 +26,16 @@ use Rattle.records.specs.Writes.{stores, limit}
 use Rattle.reader.specs.Lent.{foreignPlace}
 use Rattle.reader.proofs.Lending.{never-foreign, place-none}
 use Rattle.reader.proofs.FullReads.{small}
-use Rattle.parser.specs.declared.state.Parser.{Parser}
-use Rattle.parser.specs.declared.state.Refusal.{Refusal}
-use Rattle.parser.specs.declared.state.Parsed.the-variants as parsed
-use Rattle.parser.specs.Views.{numbersOf}
-use Rattle.parser.specs.Statements.{Started, NotStarted, ReadsStatements}
-use Rattle.parser.proofs.StatementsCalls.{all-read, all-refused, all-not-started}
-use Rattle.patch.specs.declared.PatchAnswer.{PatchAnswer}
-use Rattle.patch.specs.declared.PatchAnswer.the-variants.{Refused}
-use Rattle.patch.specs.Moves.{First}
-use Rattle.patch.specs.Patched.{Patches, acceptedOf, Measured}
-use Rattle.patch.proofs.LineLaws.{line-length}
-use Rattle.patch.proofs.Placing.{refused, same-edit}
+use Rattle.state.specs.declared.Parser.{Parser}
+use Rattle.refusals.specs.declared.Refusal.{Refusal}
+use Rattle.state.specs.declared.Parsed.the-variants as parsed
+use Rattle.statements.specs.Statements.{Started, NotStarted, ReadsStatements}
+use Rattle.statements.proofs.Calls.{all-read, all-refused, all-not-started}
+use Rattle.patch.specs.declared.Planned.the-variants.{Refused}
+use Rattle.records.specs.Moves.{First}
+use Rattle.patch.specs.Patched.{acceptedOf, Measured}
+use Rattle.patch.specs.Plans.{Plans}
+use Rattle.lines.proofs.Laws.{line-length}
 
 -- A line by its places.
 module _ (old : List ℕ) (a : ℕ) where
@@ -176,21 +174,23 @@ module _ (s : List ℕ) (place : ℕ) where
           f .wrote .wrote (omega (arith, little (f .v) (f .reads))) (omega (arith, b .size)) ∙ ap (λ (v : List Record). stores l 0 (listing v)) (sym k)
 
 -- What the reading makes of the patch.
-module _ (old : List ℕ) (rs : List Record) (a : ℕ) (new s l : List ℕ) where
+module _ (old : List ℕ) (rs : List Record) (a : ℕ) (new : List ℕ) (roomS roomL : ℕ) where
   abbrev newLine : List ℕ
   newLine = new ++ take 1 (behind old a)
 
-  module _ (line : List ℕ) (e : drop a line ≡ newLine) where
-    pub line-denied : {r : Refusal} → (c : Cause) × (readFrom present a (drop a line) ≡ refusal c) × (r ≡ numbersOf c) → Patches (reread old rs a new (length s) (length l) (readFrom present a newLine)) s s l l (Refused r)
-    unfolding reread
-    line-denied (c, f, k) = refused c (rw (ap (readFrom present a) (sym e) ∙ f)) k
+  abbrev read : Result Edit
+  read = reread old rs a new roomS roomL (readFrom present a newLine)
 
-    pub line-accepted : {p : Parser} {n end : ℕ} {s′ l′ ed : List ℕ} {r : PatchAnswer} → Measured line a p n → end ≡ a + length (lineAt old a) → ed ≡ edited old a new
-        → Patches (placedIn (length s) (length l) ed (exchanged a (end - a) (length new) rs (acceptedOf (readFrom present a (drop a line))))) s s′ l l′ r
-        → Patches (reread old rs a new (length s) (length l) (readFrom present a newLine)) s s′ l l′ r
+  module _ (line : List ℕ) (e : drop a line ≡ newLine) where
+    pub line-denied : {ed bytes : List ℕ} {r : Refusal} → (c : Cause) × (readFrom present a (drop a line) ≡ refusal c) × (r ≡ numbersOf c) → Plans read ed bytes roomS roomL (Refused r)
     unfolding reread
-    line-accepted {end = end} {ed = ed} m k h p =
+    line-denied (c, f, k) = record { so = (c, rw (ap (readFrom present a) (sym e) ∙ f), k) }
+
+    pub line-accepted : {p : Parser} {n end : ℕ} {ed : List ℕ} → Measured line a p n → end ≡ a + length (lineAt old a) → ed ≡ edited old a new
+        → read ≡ placedIn roomS roomL ed (exchanged a (end - a) (length new) rs (acceptedOf (readFrom present a (drop a line))))
+    unfolding reread
+    line-accepted {end = end} {ed = ed} m k h =
         let w : List Record = acceptedOf (readFrom present a (drop a line)) in
         let f : readFrom present a newLine ≡ accepted w = ap (readFrom present a) (sym e) ∙ m .reads in
         let d : end - a ≡ length (lineAt old a) = omega arith in
-        same-edit (rw f (rw (← d, ← h))) p
+        rw f (rw (← d, ← h))

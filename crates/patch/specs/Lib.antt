@@ -1,2 +1,2 @@
-pub mod Moves
 pub mod Patched
+pub mod Plans

@@ -9,16 +9,16 @@ use Rattle.rules.specs.Records.{Record, listing}
 use Rattle.rules.specs.Statements.{present, Outcome, accepted, refusal, readFrom}
 use Rattle.rules.specs.Calls.{Result, gives, refuses, fullRead, fullBuffer, leaves}
 use Rattle.rules.specs.Patch.{beginsLine, edited, openLine, Edit, patchSource, patchListing}
-use Rattle.parser.specs.declared.state.Parser.{Parser}
-use Rattle.parser.specs.Statements.{Started}
-use Rattle.parser.specs.Views.{numbersOf}
+use Rattle.state.specs.declared.Parser.{Parser}
+use Rattle.statements.specs.Statements.{Started}
+use Rattle.rules.specs.Reader.{numbersOf}
 use Rattle.reader.specs.declared.FullAnswer.{FullAnswer}
 use Rattle.reader.specs.declared.FullAnswer.the-variants as full
 use Rattle.reader.specs.Calls.{fullAnswer}
 use Rattle.patch.specs.declared.PatchAnswer.{PatchAnswer}
 use Rattle.patch.specs.declared.PatchAnswer.the-variants.{Written, Refused}
 
--- Document 01's numbers: the lengths of the edited source and of its listing, or a refusal's.
+-- RULES 9.5: the lengths of the edited source and of its listing, or a refusal's.
 abbrev pub patchAnswer : Result Edit → PatchAnswer
 patchAnswer (gives e) = Written (length (e .source)) (length (listing (e .records)))
 patchAnswer (refuses c) = Refused (numbersOf c)

@@ -13,11 +13,11 @@ use Rattle.rules.specs.Calls.{Result, gives, refuses, overwrite, leaves, fullRe
 use Rattle.rules.proofs.Calls.{Accepted, accepted-call}
 use Rattle.rules.proofs.Table.{proper}
 use Rattle.rules.proofs.Listing.{listing-decodes}
-use Rattle.parser.specs.declared.state.Refusal.{Refusal}
+use Rattle.refusals.specs.declared.Refusal.{Refusal}
 use Rattle.reader.specs.declared.FullAnswer.the-variants.{Written, Refused}
-use Rattle.parser.specs.Views.{numbersOf}
+use Rattle.rules.specs.Reader.{numbersOf}
 use Rattle.reader.specs.Calls.{fullAnswer}
-use Rattle.printing.specs.Text.{Holds, Whole}
+use Rattle.printing.specs.Holds.{Holds, Whole}
 use Rattle.printing.specs.Lines.{textOf, refusalText, answerText, answered, printed, recordsIn}
 use Rattle.printing.proofs.Records.{text-of-listing}
 

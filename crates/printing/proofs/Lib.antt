@@ -1,7 +1,6 @@
-pub mod Writes
-pub mod Digits
+pub mod Fields
+pub mod Holds
 pub mod Room
 pub mod Shapes
 pub mod Records
 pub mod Answers
-pub mod Signed

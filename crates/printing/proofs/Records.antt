@@ -10,10 +10,10 @@ use lib.Seq.{drop-drop}
 use Rattle.lexer.specs.Text.{maybe}
 use Rattle.rules.specs.Records.{Record}
 use Rattle.rules.specs.Decode.{Sized, recordOf, also, recordsFrom, decode}
-use Rattle.printing.specs.Text.{Wrote}
+use Rattle.text.specs.Text.{Put}
 use Rattle.printing.specs.Lines.{line, lineOf, linesOf, textOf, recordsIn}
 use Rattle.printing.specs.Shapes.{Printed}
-use Rattle.printing.proofs.Writes.{nothing, follows, reads-as}
+use Rattle.text.proofs.Puts.{nothing, follows, reads-as}
 use Rattle.printing.proofs.Room.{end-most}
 use Rattle.printing.proofs.Shapes.{tail}
 
@@ -52,7 +52,7 @@ pub record Begun (b : List ℕ) (at count : ℕ) (l l′ : List ℕ) (to : ℕ) 
   pub few : count ≤ at
   pub within : at ≤ length b
   pub short : length (linesOf done) ≤ 6 * at
-  pub wrote : Wrote 0 (linesOf done) l l′ to
+  pub wrote : Put 0 (linesOf done) l l′ to
   pub rest : recordsIn 0 b ≡ done ++ recordsIn 0 (drop at b)
 
 pub begun : (b l : List ℕ) → Begun b 0 0 l l 0
@@ -80,7 +80,7 @@ module _ {b : List ℕ} {at count to : ℕ} {l l₁ : List ℕ} (g : Begun b at 
   all-done : recordsIn 0 b ≡ g .done
   all-done = g .rest ∙ ap (λ (rs : List Record). g .done ++ rs) e ∙ append-nil (g .done)
 
-  pub ended : {r : ℕ} {l₂ : List ℕ} → Wrote to (line "END" (count ∷ [])) l₁ l₂ r → Wrote 0 (textOf (recordsIn 0 b)) l l₂ r
+  pub ended : {r : ℕ} {l₂ : List ℕ} → Put to (line "END" (count ∷ [])) l₁ l₂ r → Put 0 (textOf (recordsIn 0 b)) l l₂ r
   unfolding textOf
   ended x = rw (all-done, ← g .counted) (follows (linesOf (g .done)) (line "END" (count ∷ [])) (g .wrote) x)
 

@@ -8,10 +8,10 @@ use lib.Dec.{ltb}
 use lib.ListN.{length, length-append, length-take, take, drop, getD}
 use borrow.Author.Tests.{lt-ltb}
 use Rattle.lexer.specs.Text.{if_then_else_, bytes}
-use Rattle.rules.specs.Decode.{nth}
-use Rattle.printing.specs.Text.{decimalIn, decimal, signed, numbers}
+use Rattle.rules.specs.Decode.{nth, nthsFrom}
+use Rattle.text.specs.Text.{decimalIn, decimal, signed, numbers}
 use Rattle.printing.specs.Lines.{line, refusalText}
-use Rattle.printing.specs.Shapes.{nthsFrom, nths}
+use Rattle.printing.specs.Shapes.{nths}
 
 one-more : (k m n : ℕ) → length (decimalIn k (n / 10)) ≤ m → length (decimalIn (suc k) n) ≤ suc m
 unfolding decimalIn

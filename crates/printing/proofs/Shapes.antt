@@ -1,173 +1,179 @@
 -- Which record stands behind a mark, and its line.
-use Prim.Native.Nat.{ℕ, _+_, _-_, _*_, _/_, _%_, _≤_, _<_}
-use mathlib.Core.Path.{_≡_, refl, ap}
-use mathlib.Core.Bool.{Bool, true, false, _&&_}
-use mathlib.Core.List.{List, [], _∷_, _++_}
+use Prim.Native.Nat.{ℕ, _+_, _-_, _*_, _≤_, _<_}
+use mathlib.Core.Path.{_≡_, refl, sym, ap, _∙_}
+use mathlib.Core.Bool.{Bool, true, false, not, _||_, false≢true, true≢false}
+use mathlib.Core.List.{List, [], _∷_, _++_, append-assoc, append-nil}
 use mathlib.Core.Option.{Option, none, some}
 use native.Mathlib.Omega.{arith}
-use lib.Dec.{eqb, leb}
 use lib.ListN.{length, take, drop, getD, length-drop, length-take, length-append}
 use lib.Seq.{length-take-le, take-all}
-use borrow.Author.Tests.{leb-true, lt-leb, le-leb, eqb-true, eq-eqb, ne-eqb}
+use borrow.Author.Tests.{lt-leb, le-leb}
 use Rattle.lexer.specs.Text.{if_then_else_, bytes, same}
-use Rattle.rules.specs.Records.{Record, VC, LD, LT}
-use Rattle.rules.specs.Decode.{Sized, nth, having, dataAt, recordOf}
-use Rattle.printing.specs.declared.Shape.{Shape}
+use Rattle.rules.specs.Records.{Form, formOf, plain, laden, VC, LD, Cell, aPlace, aNumber, aSigned, cells, cellsOf}
+use Rattle.rules.specs.Decode.{nth, nthsFrom, having, dataAt, formed, recordOf}
+use Rattle.rules.proofs.Forms.{same-true, found, two-letters as letters-two}
+use Rattle.records.specs.Marks.{lettersOf, isKnown, countOf}
+use Rattle.records.proofs.Fields.{letters-of}
+use Rattle.records.proofs.Marking.{cells-are, count-of, known-none, known-some, or-split, data-mark}
 use Rattle.printing.specs.declared.Shape.the-variants as shape
-use Rattle.printing.specs.Text.{numbers, Wrote}
-use Rattle.printing.specs.Lines.{line, lineOf}
-use Rattle.printing.specs.Shapes.{nthsFrom, nths, lettersOf, Lined, Shaped, fieldsIn, Printed}
-use Rattle.printing.proofs.Writes.{numbers-append}
+use Rattle.text.specs.Text.{decimal, signed, numbers, Put}
+use Rattle.printing.specs.Lines.{fieldsText, lineOf}
+use Rattle.printing.specs.Shapes.{nths, Lined, Shaped, Printed}
+use Rattle.text.proofs.Puts.{numbers-append}
 
--- what holds of a mark k and a shape q holds of those that equal them
-pub marked : (x k : ℕ) (s : List ℕ) (p q : Shape) → x ≡ k → p ≡ q → Shaped (lettersOf k) s q → Shaped (lettersOf x) s p
-marked x k s p q e f h = rw (e, f) h
-
--- a record of n fields
-pub fielded : (n : ℕ) (m s : List ℕ) (r : Record) → recordOf m s ≡ having n s r → lineOf r ≡ m ++ numbers (nths n s) ++ bytes "\n" → Shaped m s (fieldsIn n s)
-unfolding having
-fielded n m s r e f = go (leb (4 * n) (length s)) refl e
+-- a test that fails, or does not
+pub not-true : {b : Bool} → not b ≡ true → b ≡ false
+not-true {b} h = by b h
   where
-    go : (b : Bool) → leb (4 * n) (length s) ≡ b → recordOf m s ≡ (if b then (some (record { what = r; size = 2 + 4 * n })) else none) → Shaped m s (if b then (shape.Fields n) else shape.Nothing)
-    go true h i = record { what = r; there = i; fits = leb-true (4 * n) (length s) h; said = f }
-    go false h i = i
+    by : (b : Bool) → not b ≡ true → b ≡ false
+    by true h = absurd (false≢true h)
+    by false h = refl
 
-whole : (n : ℕ) (s : List ℕ) (r : Record) → 4 * n ≤ length s → having n s r ≡ some (record { what = r; size = 2 + 4 * n })
-unfolding having
-whole n s r h = rw (le-leb (4 * n) (length s) h)
+pub not-false : {b : Bool} → not b ≡ false → b ≡ true
+not-false {b} h = by b h
+  where
+    by : (b : Bool) → not b ≡ false → b ≡ true
+    by true h = refl
+    by false h = absurd (true≢false h)
 
-short : (n : ℕ) (s : List ℕ) (r : Record) → length s < 4 * n → having n s r ≡ none
-unfolding having
-short n s r h = rw (lt-leb (4 * n) (length s) h)
+-- A RECORD THAT IS NOT THERE: it has no description, or its bytes end too soon.
+pub no-record : (m s : List ℕ) → formOf m ≡ none → recordOf m s ≡ none
+unfolding recordOf
+no-record m s e = rw e
+
+pub not-known : (m s : List ℕ) → isKnown m ≡ false → recordOf m s ≡ none
+not-known m s e = no-record m s (known-none m e)
+
+of-form : (m s : List ℕ) (w : Form) → formOf m ≡ some w → recordOf m s ≡ formed m s w
+unfolding recordOf
+of-form m s w e = rw e
+
+pub too-short : (m s : List ℕ) → length s < 4 * countOf m → recordOf m s ≡ none
+unfolding formed having dataAt
+too-short m s h = go (formOf m) refl
+  where
+    by : (w : Form) (b : Bool) → w .laden ≡ b → let n : ℕ = length (cells (w .holds)) in length s < 4 * (n + (if b then 1 else 0))
+        → (if b then (dataAt n m s) else (having n s (plain m (nthsFrom 0 n s)))) ≡ none
+    by w true e i = let n : ℕ = length (cells (w .holds)) in rw (lt-leb (4 * n + 4 + nth n s) (length s) (omega arith))
+    by w false e i = let n : ℕ = length (cells (w .holds)) in rw (lt-leb (4 * n) (length s) (omega arith))
+
+    go : (o : Option Form) → formOf m ≡ o → recordOf m s ≡ none
+    go none e = no-record m s e
+    go (some w) e = of-form m s w e ∙ by w (w .laden) refl (rw (count-of m w e) at h)
+
+-- one letter alone, or none
+pub no-mark : (s : List ℕ) → length s < 2 → recordOf (take 2 s) (drop 2 s) ≡ none
+no-mark s h = go (formOf (take 2 s)) refl
+  where
+    go : (o : Option Form) → formOf (take 2 s) ≡ o → recordOf (take 2 s) (drop 2 s) ≡ none
+    go none e = no-record (take 2 s) (drop 2 s) e
+    go (some w) e = let (c, d, i) = letters-two (take 2 s) w e in absurd (omega (arith, ap length i, length-take 2 s))
+
+-- THE TEXT OF THE FIELDS: numbers, where none is signed.
+unfoldable noSigned : List Cell → Bool
+noSigned [] = true
+noSigned (aPlace ∷ cs) = noSigned cs
+noSigned (aNumber ∷ cs) = noSigned cs
+noSigned (aSigned ∷ cs) = false
+
+plain-text : (cs : List Cell) (ns : List ℕ) → noSigned cs ≡ true → fieldsText cs ns ≡ numbers ns
+unfolding fieldsText numbers noSigned
+plain-text [] ns h = refl
+plain-text (c ∷ cs) [] h = refl
+plain-text (aPlace ∷ cs) (n ∷ ns) h = ap (λ (t : List ℕ). bytes " " ++ decimal n ++ t) (plain-text cs ns h)
+plain-text (aNumber ∷ cs) (n ∷ ns) h = ap (λ (t : List ℕ). bytes " " ++ decimal n ++ t) (plain-text cs ns h)
+plain-text (aSigned ∷ cs) (n ∷ ns) h = absurd (false≢true h)
+
+-- only VC has a value
+only-value : (m : List ℕ) (w : Form) → formOf m ≡ some w → (m ≡ bytes "VC" → ⊥) → noSigned (cells (w .holds)) ≡ true
+unfolding formOf cells noSigned
+only-value m w e n =
+    let (h, j) = found (λ v. same (bytes (v .mark)) (bytes "VC") || noSigned (cells (v .holds))) m w refl e in
+    or-split (same (bytes (w .mark)) (bytes "VC")) _ h (λ i. n (j ∙ same-true (bytes (w .mark)) (bytes "VC") i))
+
+unlike : {x k : ℕ} {m : List ℕ} → lettersOf k ≡ m → (x ≡ k → ⊥) → lettersOf x ≡ m → ⊥
+unlike {x} {k} h n e = n (letters-of x k (e ∙ sym h))
 
 -- VC
+value-text : (f t v : ℕ) → fieldsText (aPlace ∷ aPlace ∷ aSigned ∷ []) (f ∷ t ∷ v ∷ []) ≡ numbers (f ∷ t ∷ []) ++ bytes " " ++ signed v
+unfolding fieldsText numbers bytes
+value-text f t v =
+    let x : List ℕ = 32 ∷ signed v in
+    let e : numbers (f ∷ t ∷ []) ++ x ≡ 32 ∷ (decimal f ++ (32 ∷ (decimal t ++ x))) =
+    ap (λ (y : List ℕ). 32 ∷ y) (append-assoc (decimal f) (32 ∷ (decimal t ++ [])) x ∙ ap (λ (y : List ℕ). decimal f ++ (32 ∷ y)) (append-assoc (decimal t) [] x)) in
+    ap (λ (y : List ℕ). 32 ∷ (decimal f ++ (32 ∷ (decimal t ++ (32 ∷ y))))) (append-nil (signed v)) ∙ sym e ∙ sym (append-assoc (numbers (f ∷ t ∷ [])) (32 ∷ []) (signed v))
+
 pub value-there : (s : List ℕ) → 12 ≤ length s → Shaped (lettersOf 0x5643) s shape.Value
-unfolding recordOf same bytes lineOf nthsFrom
-value-there s h = record { what = VC (nth 0 s) (nth 1 s) (nth 2 s); there = whole 3 s _ h; fits = h; said = refl }
+unfolding recordOf formed having lineOf nthsFrom bytes
+value-there s h = record {
+  what = VC (nth 0 s) (nth 1 s) (nth 2 s);
+  there = rw (le-leb 12 (length s) h);
+  fits = h;
+  said = ap (λ (t : List ℕ). 86 ∷ 67 ∷ (t ++ bytes "\n")) (value-text (nth 0 s) (nth 1 s) (nth 2 s));
+}
 
-pub no-value : (s : List ℕ) → length s < 12 → Shaped (lettersOf 0x5643) s shape.Nothing
-unfolding recordOf same bytes
-no-value s h = short 3 s _ h
+pub value-three : {m n : ℕ} → m ≡ 0x5643 → n ≡ countOf (lettersOf m) → n ≡ 3
+unfolding countOf
+value-three e f = f ∙ ap (λ (x : ℕ). countOf (lettersOf x)) e
 
--- LT, whose fields are 0
-pub times-there : (s : List ℕ) → 8 ≤ length s → nth 0 s ≡ 0 → nth 1 s ≡ 0 → Shaped (lettersOf 0x4c54) s (shape.Fields 2)
-unfolding recordOf same bytes lineOf line nthsFrom
-times-there s h a b = record { what = LT; there = rw (eq-eqb (nth 0 s) 0 a, eq-eqb (nth 1 s) 0 b) (whole 2 s LT h); fits = h; said = rw (a, b) }
-
-pub no-times : (s : List ℕ) → length s < 8 → Shaped (lettersOf 0x4c54) s shape.Nothing
-unfolding recordOf same bytes
-no-times s h = go (eqb (nth 0 s) 0 && eqb (nth 1 s) 0)
-  where
-    go : (b : Bool) → (if b then (having 2 s LT) else none) ≡ none
-    go true = short 2 s LT h
-    go false = refl
-
-pub not-first : (s : List ℕ) → (nth 0 s ≡ 0 → ⊥) → Shaped (lettersOf 0x4c54) s shape.Nothing
-unfolding recordOf same bytes
-not-first s h = rw (ne-eqb (nth 0 s) 0 h)
-
-pub not-second : (s : List ℕ) → nth 0 s ≡ 0 → (nth 1 s ≡ 0 → ⊥) → Shaped (lettersOf 0x4c54) s shape.Nothing
-unfolding recordOf same bytes
-not-second s a h = rw (eq-eqb (nth 0 s) 0 a, ne-eqb (nth 1 s) 0 h)
+pub data-three : {m n : ℕ} → m ≡ 0x4c44 → n ≡ countOf (lettersOf m) → n ≡ 3
+unfolding countOf
+data-three e f = f ∙ ap (λ (x : ℕ). countOf (lettersOf x)) e
 
 -- LD, whose bytes are as many as it says
 pub data-there : (s : List ℕ) (n : ℕ) → n ≡ nth 2 s → 12 + n ≤ length s → Shaped (lettersOf 0x4c44) s (shape.Data n)
-unfolding recordOf same bytes dataAt lineOf line nthsFrom
+unfolding recordOf formed dataAt lineOf nthsFrom noSigned bytes
 data-there s n e h =
     let d : List ℕ = take n (drop 12 s) in
     let k : length d ≡ n = length-take-le n (drop 12 s) (omega (arith, length-drop 12 s)) in
-    let z : 14 + n ≡ 2 + (12 + n) = omega arith in
     record {
       what = LD (nth 0 s) (nth 1 s) d;
-      there = rw (← e, le-leb (12 + n) (length s) h, z);
+      there = rw (← e, le-leb (12 + n) (length s) h);
       fits = h;
-      said = rw (k, ← e) (ap (λ (t : List ℕ). bytes "LD" ++ t ++ bytes "\n") (numbers-append (nth 0 s ∷ nth 1 s ∷ n ∷ []) d));
+      said = rw (k, ← e) (said (nth 0 s) (nth 1 s) n d);
     }
+  where
+    said : (f t n : ℕ) (d : List ℕ) → (76 ∷ 68 ∷ []) ++ fieldsText (aPlace ∷ aPlace ∷ []) (f ∷ t ∷ []) ++ numbers (n ∷ d) ++ bytes "\n" ≡ (76 ∷ 68 ∷ []) ++ (numbers (f ∷ t ∷ n ∷ []) ++ numbers d) ++ bytes "\n"
+    said f t n d =
+        let a : fieldsText (aPlace ∷ aPlace ∷ []) (f ∷ t ∷ []) ++ numbers (n ∷ d) ≡ numbers (f ∷ t ∷ n ∷ []) ++ numbers d =
+        ap (λ (x : List ℕ). x ++ numbers (n ∷ d)) (plain-text (aPlace ∷ aPlace ∷ []) (f ∷ t ∷ []) refl) ∙ sym (numbers-append (f ∷ t ∷ []) (n ∷ d)) ∙ numbers-append (f ∷ t ∷ n ∷ []) d in
+        ap (λ (x : List ℕ). 76 ∷ 68 ∷ (x ++ bytes "\n")) a
 
 pub no-data : (s : List ℕ) → length s < 12 + nth 2 s → Shaped (lettersOf 0x4c44) s shape.Nothing
-unfolding recordOf same bytes dataAt
+unfolding recordOf formed dataAt
 no-data s h = rw (lt-leb (12 + nth 2 s) (length s) h)
 
--- a mark that is none of them
-skip : {b : Bool} (x : Option Sized) {y : Option Sized} → b ≡ false → y ≡ none → (if b then x else y) ≡ none
-skip x e f = rw (e, f)
+-- the others
+plainly : (m s : List ℕ) (w : Form) (n : ℕ) → w .laden ≡ false → length (cells (w .holds)) ≡ n → 4 * n ≤ length s → formed m s w ≡ some (record { what = plain m (nths n s); size = 2 + 4 * n })
+unfolding formed having
+plainly m s w n i k h = rw (i, k, le-leb (4 * n) (length s) h)
 
-not-times : (b c d : Bool) → b ≡ false → b && c && d ≡ false
-not-times b c d e = rw e
+line-is : (m ns : List ℕ) → noSigned (cellsOf m) ≡ true → lineOf (plain m ns) ≡ m ++ numbers ns ++ bytes "\n"
+unfolding lineOf
+line-is m ns h = ap (λ (t : List ℕ). m ++ t ++ bytes "\n") (plain-text (cellsOf m) ns h)
 
-off : (x k : ℕ) → (x ≡ k → ⊥) → same (lettersOf x) (lettersOf k) ≡ false
-unfolding same
-off x k h = go (eqb (x / 256) (k / 256)) refl
+pub fields-there : (x n : ℕ) (s : List ℕ) → n ≡ countOf (lettersOf x) → isKnown (lettersOf x) ≡ true → 4 * n ≤ length s → (x ≡ 0x5643 → ⊥) → (x ≡ 0x4c44 → ⊥) → Shaped (lettersOf x) s (shape.Fields n)
+unfolding bytes
+fields-there x n s e z h vc ld = go (formOf (lettersOf x)) refl
   where
-    low : eqb (x / 256) (k / 256) ≡ true → eqb (x % 256) (k % 256) ≡ false
-    low e = ne-eqb (x % 256) (k % 256) λ f. h (omega (arith, eqb-true (x / 256) (k / 256) e))
-
-    go : (b : Bool) → eqb (x / 256) (k / 256) ≡ b → (if b then (if eqb (x % 256) (k % 256) then true else false) else false) ≡ false
-    go true e = rw (low e)
-    go false e = refl
-
-abbrev Away : Type 0 → ℕ → List ℕ → Type 0
-Away P x [] = P
-Away P x (k ∷ ks) = Away (P × (x ≡ k → ⊥)) x ks
-
-pub others : (x : ℕ) (s : List ℕ) → Away (Unit {0}) x (21332 ∷ 22083 ∷ 22092 ∷ 22089 ∷ 22099 ∷ 20550 ∷ 18766 ∷ 20306 ∷ 20307 ∷ 20297 ∷ 20294 ∷ 20292 ∷ 20312 ∷ 19532 ∷ 19529 ∷ 19524 ∷ 19523 ∷ 19540 ∷ []) → recordOf (lettersOf x) s ≡ none
-unfolding recordOf bytes
-others x s a =
-    skip _ (off x 21332 (a .0 .0 .0 .0 .0 .0 .0 .0 .0 .0 .0 .0 .0 .0 .0 .0 .0 .1)) (
-    skip _ (off x 22083 (a .0 .0 .0 .0 .0 .0 .0 .0 .0 .0 .0 .0 .0 .0 .0 .0 .1)) (
-    skip _ (off x 22092 (a .0 .0 .0 .0 .0 .0 .0 .0 .0 .0 .0 .0 .0 .0 .0 .1)) (
-    skip _ (off x 22089 (a .0 .0 .0 .0 .0 .0 .0 .0 .0 .0 .0 .0 .0 .0 .1)) (
-    skip _ (off x 22099 (a .0 .0 .0 .0 .0 .0 .0 .0 .0 .0 .0 .0 .0 .1)) (
-    skip _ (off x 20550 (a .0 .0 .0 .0 .0 .0 .0 .0 .0 .0 .0 .0 .1)) (
-    skip _ (off x 18766 (a .0 .0 .0 .0 .0 .0 .0 .0 .0 .0 .0 .1)) (
-    skip _ (off x 20306 (a .0 .0 .0 .0 .0 .0 .0 .0 .0 .0 .1)) (
-    skip _ (off x 20307 (a .0 .0 .0 .0 .0 .0 .0 .0 .0 .1)) (
-    skip _ (off x 20297 (a .0 .0 .0 .0 .0 .0 .0 .0 .1)) (
-    skip _ (off x 20294 (a .0 .0 .0 .0 .0 .0 .0 .1)) (
-    skip _ (off x 20292 (a .0 .0 .0 .0 .0 .0 .1)) (
-    skip _ (off x 20312 (a .0 .0 .0 .0 .0 .1)) (
-    skip _ (off x 19532 (a .0 .0 .0 .0 .1)) (
-    skip _ (off x 19529 (a .0 .0 .0 .1)) (
-    skip _ (off x 19524 (a .0 .0 .1)) (
-    skip _ (off x 19523 (a .0 .1)) (
-    skip _ (not-times _ _ _ (off x 19540 (a .1))) refl)))))))))))))))))
-
--- one letter alone, or none
-lone : (c a b : ℕ) → same (c ∷ []) (a ∷ b ∷ []) ≡ false
-unfolding same
-lone c a b = go (eqb c a)
-  where
-    go : (t : Bool) → (if t then false else false) ≡ false
-    go true = refl
-    go false = refl
-
-pub no-mark : (s : List ℕ) → length s < 2 → recordOf (take 2 s) (drop 2 s) ≡ none
-unfolding recordOf bytes same
-no-mark [] h = refl
-no-mark (c ∷ []) h =
-    skip _ (lone c 83 84) (
-    skip _ (lone c 86 67) (
-    skip _ (lone c 86 76) (
-    skip _ (lone c 86 73) (
-    skip _ (lone c 86 83) (
-    skip _ (lone c 80 70) (
-    skip _ (lone c 73 78) (
-    skip _ (lone c 79 82) (
-    skip _ (lone c 79 83) (
-    skip _ (lone c 79 73) (
-    skip _ (lone c 79 70) (
-    skip _ (lone c 79 68) (
-    skip _ (lone c 79 88) (
-    skip _ (lone c 76 76) (
-    skip _ (lone c 76 73) (
-    skip _ (lone c 76 68) (
-    skip _ (lone c 76 67) (
-    skip _ (not-times _ _ _ (lone c 76 84)) refl)))))))))))))))))
-no-mark (c ∷ d ∷ s) h = absurd (omega arith)
+    go : (o : Option Form) → formOf (lettersOf x) ≡ o → Lined (lettersOf x) s (4 * n) (numbers (nths n s))
+    go none f = absurd (known-some (lettersOf x) f z)
+    go (some w) f = by (w .laden) refl
+      where
+        by : (b : Bool) → w .laden ≡ b → Lined (lettersOf x) s (4 * n) (numbers (nths n s))
+        by true i = absurd (unlike refl ld (data-mark (lettersOf x) w f i))
+        by false i =
+            let k : n ≡ length (cells (w .holds)) = e ∙ count-of (lettersOf x) w f ∙ rw i (omega arith) in
+            record {
+              what = plain (lettersOf x) (nths n s);
+              there = of-form (lettersOf x) s w f ∙ plainly (lettersOf x) s w n i (sym k) h;
+              fits = h;
+              said = line-is (lettersOf x) (nths n s) (rw (cells-are (lettersOf x) w f) (only-value (lettersOf x) w f (unlike refl vc)));
+            }
 
 -- the record at the head of s, with its mark
 pub printed : (s : List ℕ) (size : ℕ) (text : List ℕ) {at w : ℕ} {l l′ : List ℕ} → 2 ≤ length s → length text ≤ 6 * size + 9 → Lined (take 2 s) (drop 2 s) size text
-    → Wrote at (take 2 s ++ text ++ bytes "\n") l l′ w → Printed s (2 + size) at l l′ w
+    → Put at (take 2 s ++ text ++ bytes "\n") l l′ w → Printed s (2 + size) at l l′ w
 unfolding bytes
 printed s size text h k d x =
     record {

@@ -1,4 +1,3 @@
-pub mod Text
+pub mod Holds
 pub mod Lines
 pub mod Shapes
-pub mod Claims

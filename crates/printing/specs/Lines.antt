@@ -8,36 +8,31 @@ use lib.ListN.{length, take, drop}
 use Rattle.lexer.specs.Text.{maybe, bytes}
 use Rattle.names.specs.Table.{operations, spellings, row, rowsOf}
 use Rattle.rules.specs.Statements.{present}
-use Rattle.rules.specs.Records.{Record, ST, VC, VL, VI, VS, PF, IN, OR, OS, OI, OF, OD, OX, LL, LI, LD, LC, LT}
+use Rattle.rules.specs.Records.{Record, plain, laden, VC, LD, Cell, aPlace, aNumber, aSigned, cellsOf}
 use Rattle.rules.specs.Calls.{Result, gives, refuses, fullRead, openCalls}
 use Rattle.rules.specs.Decode.{recordOf}
-use Rattle.parser.specs.declared.state.Refusal.{Refusal}
-use Rattle.parser.specs.Views.{numbersOf}
-use Rattle.printing.specs.Text.{signed, numbers, openText}
+use Rattle.refusals.specs.declared.Refusal.{Refusal}
+use Rattle.rules.specs.Reader.{numbersOf}
+use Rattle.text.specs.Text.{decimal, signed, numbers, openText}
 
 unfoldable pub line : String → List ℕ → List ℕ
 line m ns = bytes m ++ numbers ns ++ bytes "\n"
 
--- The value of VC is signed.
+-- A field's text, and that of a record's fields: a value is signed.
+abbrev pub fieldText : Cell → ℕ → List ℕ
+fieldText aPlace n = decimal n
+fieldText aNumber n = decimal n
+fieldText aSigned n = signed n
+
+unfoldable pub fieldsText : List Cell → List ℕ → List ℕ
+fieldsText [] ns = numbers ns
+fieldsText (c ∷ cs) [] = []
+fieldsText (c ∷ cs) (n ∷ ns) = bytes " " ++ fieldText c n ++ fieldsText cs ns
+
 unfoldable pub lineOf : Record → List ℕ
-lineOf (ST p) = line "ST" (p ∷ [])
-lineOf (VC f t v) = bytes "VC" ++ numbers (f ∷ t ∷ []) ++ bytes " " ++ signed v ++ bytes "\n"
-lineOf (VL f t) = line "VL" (f ∷ t ∷ [])
-lineOf (VI f t) = line "VI" (f ∷ t ∷ [])
-lineOf (VS f t) = line "VS" (f ∷ t ∷ [])
-lineOf (PF f t o) = line "PF" (f ∷ t ∷ o ∷ [])
-lineOf (IN f t o) = line "IN" (f ∷ t ∷ o ∷ [])
-lineOf (OR f t r) = line "OR" (f ∷ t ∷ r ∷ [])
-lineOf (OS f t s) = line "OS" (f ∷ t ∷ s ∷ [])
-lineOf (OI f t) = line "OI" (f ∷ t ∷ [])
-lineOf (OF f t) = line "OF" (f ∷ t ∷ [])
-lineOf (OD f t z s) = line "OD" (f ∷ t ∷ z ∷ s ∷ [])
-lineOf (OX f t e d z s) = line "OX" (f ∷ t ∷ e ∷ d ∷ z ∷ s ∷ [])
-lineOf (LL f t) = line "LL" (f ∷ t ∷ [])
-lineOf (LI f t o n f′ t′) = line "LI" (f ∷ t ∷ o ∷ n ∷ f′ ∷ t′ ∷ [])
-lineOf (LD f t d) = line "LD" (f ∷ t ∷ length d ∷ d)
-lineOf (LC f t) = line "LC" (f ∷ t ∷ [])
-lineOf LT = line "LT" (0 ∷ 0 ∷ [])
+unfolding cellsOf fieldsText
+lineOf (plain m ns) = m ++ fieldsText (cellsOf m) ns ++ bytes "\n"
+lineOf (laden m ns d) = m ++ fieldsText (cellsOf m) ns ++ numbers (length d ∷ d) ++ bytes "\n"
 
 unfoldable pub linesOf : List Record → List ℕ
 linesOf [] = []

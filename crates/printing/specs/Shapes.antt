@@ -1,31 +1,22 @@
 -- How the code prints the record at the head of bytes.
 use mathlib.Core.Path.{_≡_}
-use mathlib.Core.List.{List, [], _∷_, _++_}
+use mathlib.Core.List.{List, _++_}
 use mathlib.Core.Option.{none, some}
-use Prim.Native.Nat.{ℕ, zero, suc, _+_, _*_, _/_, _%_, _≤_}
-use lib.Dec.{leb}
+use Prim.Native.Nat.{ℕ, _+_, _*_, _≤_}
 use lib.ListN.{length, take, drop}
-use Rattle.lexer.specs.Text.{if_then_else_, bytes}
+use Rattle.lexer.specs.Text.{bytes}
 use Rattle.rules.specs.Records.{Record}
-use Rattle.rules.specs.Decode.{nth, recordOf}
+use Rattle.rules.specs.Decode.{nth, nthsFrom, recordOf}
 use Rattle.printing.specs.declared.Shape.{Shape}
 use Rattle.printing.specs.declared.Shape.the-variants as shape
 use Rattle.printing.specs.declared.Line.{Line}
 use Rattle.printing.specs.declared.Line.the-variants as printed
-use Rattle.printing.specs.Text.{signed, numbers, Wrote}
+use Rattle.text.specs.Text.{signed, numbers, Put}
 use Rattle.printing.specs.Lines.{lineOf}
 
 -- The first n fields.
-unfoldable pub nthsFrom : ℕ → ℕ → List ℕ → List ℕ
-nthsFrom i zero s = []
-nthsFrom i (suc n) s = nth i s ∷ nthsFrom (suc i) n s
-
 abbrev pub nths : ℕ → List ℕ → List ℕ
 nths n s = nthsFrom 0 n s
-
--- The two letters of a mark.
-abbrev pub lettersOf : ℕ → List ℕ
-lettersOf m = m / 256 ∷ m % 256 ∷ []
 
 -- A record with the mark m, whose other bytes are at the head of s, and its line.
 pub record Lined (m s : List ℕ) (size : ℕ) (text : List ℕ) : Type 0 where
@@ -41,9 +32,6 @@ Shaped m s shape.Value = Lined m s 12 (numbers (nths 2 s) ++ bytes " " ++ signed
 Shaped m s (shape.Data n) = Lined m s (12 + n) (numbers (nths 3 s) ++ numbers (take n (drop 12 s)))
 Shaped m s shape.Nothing = recordOf m s ≡ none
 
-abbrev pub fieldsIn : ℕ → List ℕ → Shape
-fieldsIn n s = if leb (4 * n) (length s) then (shape.Fields n) else shape.Nothing
-
 -- The record at the head of s is printed: its length, and the place behind its line; or none is there.
 pub record Printed (s : List ℕ) (size at : ℕ) (l l′ : List ℕ) (w : ℕ) : Type 0 where
   pub what : Record
@@ -51,7 +39,7 @@ pub record Printed (s : List ℕ) (size at : ℕ) (l l′ : List ℕ) (w : ℕ) 
   pub long : 2 ≤ size
   pub fits : size ≤ length s
   pub short : length (lineOf what) ≤ 6 * size
-  pub wrote : Wrote at (lineOf what) l l′ w
+  pub wrote : Put at (lineOf what) l l′ w
 
 abbrev pub Prints : List ℕ → ℕ → List ℕ → List ℕ → Line → Type 0
 Prints s at l l′ (printed.Record size w) = Printed s size at l l′ w

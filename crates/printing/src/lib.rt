@@ -1,8 +1,12 @@
 // What the program `listing` prints: a listing's records as lines, or a refusal.
-mod text;
-
 use reader::FullAnswer;
 use reader::full_read;
+use records::marks::LD;
+use records::marks::VC;
+use records::marks::field_at;
+use records::marks::fields;
+use records::marks::known;
+use records::marks::marked;
 use text::put;
 use text::put_all;
 use text::put_number;
@@ -10,52 +14,17 @@ use text::put_numbers;
 use text::put_signed;
 ghost use mathlib.Core.Path.{_≡_};
 ghost use mathlib.Core.List.{[], _∷_};
-ghost use Prim.Native.Nat.{_+_, _*_, _≤_, _<_};
+ghost use Prim.Native.Nat.{_+_, _*_, _≤_};
 ghost use lib.ListN.{length, take};
 ghost use Rattle.io.specs.Counts.{Counts};
 ghost use Rattle.rules.specs.Statements.{present};
 ghost use Rattle.rules.specs.Calls.{fullBuffer};
 ghost use Rattle.rules.specs.Decode.{nth};
-ghost use Rattle.printing.specs.Text.{numbers, Wrote, Holds, Whole};
+ghost use Rattle.records.specs.Marks.{lettersOf};
+ghost use Rattle.text.specs.Text.{numbers, Put};
+ghost use Rattle.printing.specs.Holds.{Holds, Whole};
 ghost use Rattle.printing.specs.Lines.{line, textOf, refusalText, answered, printed, recordsIn};
-ghost use Rattle.printing.specs.Shapes.{nths, lettersOf, fieldsIn, Shaped, Prints};
-
-// The marks that records open with: two letters as a number.
-const ST: u32 = 0x5354;
-
-const VC: u32 = 0x5643;
-
-const VL: u32 = 0x564c;
-
-const VI: u32 = 0x5649;
-
-const VS: u32 = 0x5653;
-
-const PF: u32 = 0x5046;
-
-const IN: u32 = 0x494e;
-
-const OR: u32 = 0x4f52;
-
-const OS: u32 = 0x4f53;
-
-const OI: u32 = 0x4f49;
-
-const OF: u32 = 0x4f46;
-
-const OD: u32 = 0x4f44;
-
-const OX: u32 = 0x4f58;
-
-const LL: u32 = 0x4c4c;
-
-const LI: u32 = 0x4c49;
-
-const LD: u32 = 0x4c44;
-
-const LC: u32 = 0x4c43;
-
-const LT: u32 = 0x4c54;
+ghost use Rattle.printing.specs.Shapes.{nths, Shaped, Prints};
 
 // How a record is printed: so many fields; VC, whose value is signed; LD with so many bytes.
 enum Shape {
@@ -71,94 +40,41 @@ enum Line {
     Nothing,
 }
 
-// Two letters as a mark.
-fn mark_of(a: u8, b: u8) -> u32
-    ensures { λ r. ⌜ lettersOf r ≡ a ∷ b ∷ [] ⌝ }
-{
-    256 * (a as u32) + b as u32
-}
-
-// Four bytes as a number, low first.
-fn joined(a: u8, b: u8, c: u8, d: u8) -> u32
-    ensures { λ r. ⌜ r ≡ a + 256 * (b + 256 * (c + 256 * d)) ⌝ }
-{
-    a as u32 + 256 * (b as u32 + 256 * (c as u32 + 256 * (d as u32)))
-}
-
 // The i-th field behind a mark.
 fn field(s: &[u8], i: usize) -> u32
     requires { ⌜ 4 * i + 4 ≤ length (now s) ⌝ }
     ensures { λ r. ⌜ r ≡ nth i (now (s .entry)) ⌝ }
 {
-    let at = 4 * i;
-    joined(s[at], s[at + 1], s[at + 2], s[at + 3])
+    field_at(s, 4 * i) as u32
 }
 
-fn fields(s: &[u8], n: usize) -> Shape
-    requires { ⌜ n < 7 ⌝ }
-    ensures { λ r. ⌜ r ≡ fieldsIn n (now (s .entry)) ⌝ }
+fn shape_of(mark: usize, s: &[u8]) -> Shape
+    ensures { λ r. ⌜ Shaped (lettersOf mark) (now (s .entry)) r ⌝ }
 {
+    if !known(mark) {
+        return Shape::Nothing;
+    }
+    let n = fields(mark);
     if s.len() < 4 * n {
         return Shape::Nothing;
     }
-    Shape::Fields(n)
-}
-
-fn shape_of(mark: u32, s: &[u8]) -> Shape
-    ensures { λ r. ⌜ Shaped (lettersOf mark) (now (s .entry)) r ⌝ }
-{
-    match mark {
-        ST => fields(s, 1),
-        VC => {
-            if s.len() < 12 {
-                return Shape::Nothing;
-            }
-            Shape::Value
-        }
-        VL => fields(s, 2),
-        VI => fields(s, 2),
-        VS => fields(s, 2),
-        PF => fields(s, 3),
-        IN => fields(s, 3),
-        OR => fields(s, 3),
-        OS => fields(s, 3),
-        OI => fields(s, 2),
-        OF => fields(s, 2),
-        OD => fields(s, 4),
-        OX => fields(s, 6),
-        LL => fields(s, 2),
-        LI => fields(s, 6),
-        LD => {
-            if s.len() < 12 {
-                return Shape::Nothing;
-            }
-            let n = field(s, 2) as usize;
-            if s.len() - 12 < n {
-                return Shape::Nothing;
-            }
-            Shape::Data(n)
-        }
-        LC => fields(s, 2),
-        LT => {
-            if s.len() < 8 {
-                return Shape::Nothing;
-            }
-            if field(s, 0) != 0 {
-                return Shape::Nothing;
-            }
-            if field(s, 1) != 0 {
-                return Shape::Nothing;
-            }
-            Shape::Fields(2)
-        }
-        _ => Shape::Nothing,
+    if mark == VC {
+        return Shape::Value;
     }
+    if mark == LD {
+        let count = field(s, 2) as usize;
+        if s.len() - 12 < count {
+            return Shape::Nothing;
+        }
+        return Shape::Data(count);
+    }
+    Shape::Fields(n)
 }
 
 // The mark and the first n fields.
 fn put_fields(out: &mut [u8], at: usize, a: u8, b: u8, s: &[u8], n: usize) -> usize
     requires { ⌜ 4 * n ≤ length (now s) ⌝ }
-    ensures { λ r. ⌜ Wrote at (a ∷ b ∷ numbers (nths n (now (s .entry)))) (now (out .entry)) (now (out .exit)) r ⌝ }
+    ensures { λ r. ⌜ Put at (a ∷ b ∷ numbers (nths n (now (s .entry)))) (now (out .entry)) (now (out .exit)) r ⌝ }
 {
     let mut to = put(out, at, a);
     to = put(out, to, b);
@@ -180,7 +96,7 @@ fn put_record(out: &mut [u8], at: usize, s: &[u8]) -> Line
     let a = s[0];
     let b = s[1];
     let rest = &s[2..];
-    match shape_of(mark_of(a, b), rest) {
+    match shape_of(marked(a, b), rest) {
         Shape::Fields(n) => {
             let to = put_fields(out, at, a, b, rest, n);
             Line::Record(2 + 4 * n, put(out, to, b'\n'))
@@ -202,7 +118,7 @@ fn put_record(out: &mut [u8], at: usize, s: &[u8]) -> Line
 }
 
 fn put_end(out: &mut [u8], at: usize, count: u64) -> usize
-    ensures { λ r. ⌜ Wrote at (line "END" (count ∷ [])) (now (out .entry)) (now (out .exit)) r ⌝ }
+    ensures { λ r. ⌜ Put at (line "END" (count ∷ [])) (now (out .entry)) (now (out .exit)) r ⌝ }
 {
     let to = put_all(out, at, b"END");
     let to = put_number(out, to, count);

@@ -1,59 +1,43 @@
 -- The full read by its steps: what reading all statements makes of the whole, and the copy of what was kept.
 -- Assumes nothing.
-use Prim.Native.Nat.{ℕ, zero, suc, _+_, _-_, _*_, _≤_, _<_}
-use mathlib.Core.Path.{_≡_, refl, sym, ap, subst, _∙_}
-use mathlib.Core.List.{List, [], _∷_, _++_, append-assoc}
+use Prim.Native.Nat.{_-_, ℕ, _+_, _≤_, _<_}
+use mathlib.Core.Path.{_≡_, refl, sym, ap, _∙_}
+use mathlib.Core.List.{List, [], _++_}
 use mathlib.Core.Bool.{Bool, true, false}
-use mathlib.Core.Option.{Option, none, some}
 use native.Mathlib.Omega.{arith}
-use native.Mathlib.Nat.{zero-add}
-use native.Mathlib.Numerals.{add-one}
-use borrow.Author.Tests.{lt-ltb, le-ltb, ltb-false, leb-true}
+use native.Mathlib.Nat.{zero-add, sub-zero}
+use borrow.Author.Tests.{lt-ltb, le-ltb}
 use lib.Dec.{ltb}
-use lib.ListN.{length, take, drop, getD, set, length-take, length-append}
-use lib.Seq.{take-suc, drop-cons, take-append-seam}
-use Rattle.lexer.specs.Text.{if_then_else_, maybe}
+use lib.ListN.{length, take, drop, length-append}
+use lib.Seq.{take-append-seam, take-length}
 use Rattle.names.specs.Table.{operations}
-use Rattle.rules.specs.Lexemes.{Lexeme, tokensFrom}
 use Rattle.rules.specs.Records.{Record, listing}
-use Rattle.rules.specs.Reader.{Refusal as Cause, at, nowhere, Answer, done, refused, after, thence, arrive, refusedAs}
-use Rattle.rules.specs.Statements.{fitting, present, Row, State, rows, enter, statements, Outcome, accepted, refusal, outcome, readRows, readFrom, reading}
-use Rattle.rules.specs.Calls.{Result, gives, refuses, unless, lent, inRoom, overwrite, leaves, listed, foreign, fullRead, fullBuffer}
+use Rattle.rules.specs.Reader.{Cause, at, nowhere, numbersOf}
+use Rattle.rules.specs.Statements.{fitting, present, Outcome, accepted, refusal, reading}
+use Rattle.rules.specs.Calls.{Result, gives, unless, inRoom, overwrite, leaves, listed, fullRead, fullBuffer}
 use Rattle.rules.proofs.Calls.{none-foreign, ascii-small}
 use Rattle.rules.proofs.Shape.{Small}
 use Rattle.rules.proofs.Table.{proper}
 use Rattle.rules.proofs.Bound.{bounded}
 use Rattle.rules.proofs.Listing.{listing-formed, listing-decodes}
 use Rattle.records.specs.Writes.{stores, limit, Wrote}
-use Rattle.records.proofs.Writes.{stores-room}
-use Rattle.parser.specs.declared.state.Parser.{Parser}
-use Rattle.parser.specs.declared.state.Refusal.{Refusal}
-use Rattle.parser.specs.declared.state.Parsed.{Parsed}
-use Rattle.parser.specs.declared.state.Parsed.the-variants as parsed
+use Rattle.records.proofs.Writes.{stored-over, taken-over}
+use Rattle.state.specs.declared.Parser.{Parser}
+use Rattle.refusals.specs.declared.Refusal.{Refusal}
+use Rattle.state.specs.declared.Parsed.the-variants as parsed
 use Rattle.reader.specs.declared.FullAnswer.{FullAnswer}
 use Rattle.reader.specs.declared.FullAnswer.the-variants.{Written, Refused}
-use Rattle.parser.specs.Views.{numbersOf, stateOf, whole, Gives, Denies, Reads}
-use Rattle.reader.specs.Lent.{foreignPlace}
-use Rattle.parser.specs.Statements.{begin, Started, NotStarted, ReadsStatements}
-use Rattle.reader.specs.Calls.{fullAnswer, ReadsAll, WritesAs, Writes}
-use Rattle.parser.proofs.StatementsCalls.{all-read, all-refused, all-not-started}
-use Rattle.reader.proofs.Lending.{never-foreign}
+use Rattle.reader.specs.declared.Lent.the-variants as lending
+use Rattle.reader.specs.Lent.{foreignPlace, lentOf}
+use Rattle.statements.specs.Statements.{Started, NotStarted, ReadsStatements}
+use Rattle.reader.specs.Calls.{fullAnswer, ReadsAll, WritesAs, Writes, FullReads}
+use Rattle.statements.proofs.Calls.{all-read, all-refused, all-not-started}
+use Rattle.reader.proofs.Lending.{never-foreign, lent-refused, lent-accepted}
 
--- Copying byte by byte.
-set-seam : (a b : List ℕ) (y x : ℕ) → set (a ++ (y ∷ b)) (length a) x ≡ a ++ (x ∷ b)
-set-seam [] b y x = refl
-set-seam (c ∷ a) b y x = ap (λ (l : List ℕ). c ∷ l) (set-seam a b y x)
-
-pub copied : (kept out : List ℕ) (i : ℕ) → i < length kept → i < length out → set (take i kept ++ drop i out) i (getD kept i 0) ≡ take (i + 1) kept ++ drop (i + 1) out
-copied kept out i h k =
-    let n : length (take i kept) ≡ i = length-take i kept ∙ omega arith in
-    let e : set (take i kept ++ (getD out i 0 ∷ drop (suc i) out)) (length (take i kept)) (getD kept i 0) ≡ take i kept ++ (getD kept i 0 ∷ drop (suc i) out) = set-seam (take i kept) (drop (suc i) out) (getD out i 0) (getD kept i 0) in
-    rw (drop-cons out i 0 k) ((rw n at e) ∙ sym (rw (add-one, take-suc kept i 0 h) (append-assoc (take i kept) (getD kept i 0 ∷ []) (drop (suc i) out))))
-
--- with n bytes copied
-pub all-copied : (kept out : List ℕ) (n : ℕ) → n ≤ length kept → take n kept ++ drop n out ≡ overwrite (take n kept) out
+-- The first n bytes of what was kept, copied.
+copied : (kept l : List ℕ) (n : ℕ) {l′ : List ℕ} → l′ ≡ take (length (take (n - 0) kept)) (take (n - 0) kept) ++ drop (length (take (n - 0) kept)) l → l′ ≡ overwrite (take n kept) l
 unfolding overwrite
-all-copied kept out n h = let e : length (take n kept) ≡ n = length-take n kept ∙ omega arith in rw e
+copied kept l n e = e ∙ ap (λ (k : List ℕ). k ++ drop (length (take (n - 0) kept)) l) (take-length (take (n - 0) kept)) ∙ ap (λ (m : ℕ). take m kept ++ drop (length (take m kept)) l) (sub-zero n)
 
 -- The reading of a source is that of the bytes from place 0 on.
 module _ (table s : List ℕ) (p : Parser) (b : Started s 0 p) where
@@ -95,15 +79,6 @@ module _ (s l : List ℕ) where
     unfolding listed leaves inRoom unless
     is-written h k = record { answer = rw (e, le-ltb (length l) (length (listing v)) h); buffer = rw (e, le-ltb (length l) (length (listing v)) h) k }
 
--- bytes stored from the first on
-pub stored-over : (l b : List ℕ) → length b ≤ length l → stores l 0 b ≡ overwrite b l
-unfolding overwrite
-stored-over l b h = stores-room l 0 b (omega arith) ∙ rw (zero-add (length b))
-
-pub taken-over : (l b : List ℕ) → length b ≤ length l → take (length b) (stores l 0 b) ≡ b
-unfolding overwrite
-taken-over l b h = rw (stored-over l b h) (take-append-seam b (drop (length b) l))
-
 -- a source whose first byte above 127 is behind its end has small bytes
 pub small : (s : List ℕ) → foreignPlace s ≡ length s → Small s
 small s e = ascii-small s (none-foreign 0 s (never-foreign s (sym e)))
@@ -132,12 +107,13 @@ module _ {s : List ℕ} {p : Parser} (short : length s ≤ 65536) (plain : forei
     pub no-room : {l : List ℕ} → length l < n → ReadsAll s l l (Refused (numbersOf (nowhere 4)))
     no-room {l} k = no-room-for s l (small s plain) short (first .reads) (rw size-is at k)
 
-    pub kept-copied : {l l′ : List ℕ} → n ≤ length l → n ≤ length kept′ → l′ ≡ overwrite (take n kept′) l → ReadsAll s l l′ (Written n)
+    pub kept-copied : {l l′ : List ℕ} → n ≤ length l → n ≤ length kept′
+        → l′ ≡ take (length (take (n - 0) kept′)) (take (n - 0) kept′) ++ drop (length (take (n - 0) kept′)) l → ReadsAll s l l′ (Written n)
     kept-copied {l} {l′} i j e =
         let k : length (listing (first .v)) ≤ limit = little s [] (small s plain) short (first .reads) in
         let f : length (listing (first .v)) ≤ length kept = omega (arith, first .wrote .long, size-is) in
         let t : take n kept′ ≡ listing (first .v) = taken kept (listing (first .v)) size-is (first .wrote .wrote (omega arith) (omega arith)) f in
-        written-as size-is (is-written s l (small s plain) short (first .reads) (omega (arith, size-is)) (e ∙ ap (λ (x : List ℕ). overwrite x l) t))
+        written-as size-is (is-written s l (small s plain) short (first .reads) (omega (arith, size-is)) (copied kept′ l n e ∙ ap (λ (x : List ℕ). overwrite x l) t))
 
     pub read-again : {l l′ : List ℕ} {q₂ : Parser} {n₂ : ℕ} → n ≤ length l → ReadsStatements operations s p 0 l l′ (parsed.Done q₂ n₂) → ReadsAll s l l′ (Written n)
     read-again {l} {l′} i k =
@@ -150,25 +126,6 @@ module _ {s : List ℕ} {p : Parser} (short : length s ≤ 65536) (plain : forei
 
     pub never-denied : {l l′ : List ℕ} {r : Refusal} → ReadsStatements operations s p 0 l l′ (parsed.Refused r) → ⊥
     never-denied k = let (c, e, _) = denies operations s p b k in never-both (sym (first .reads) ∙ e)
-
--- The whole call, from the reading of a source that may be read.
-module _ (s l l′ : List ℕ) {r : FullAnswer} where
-  pub call-answer : lent s (listed (length l) (reading present s)) ≡ listed (length l) (reading present s) → ReadsAll s l l′ r → r ≡ fullAnswer (fullRead present s (length l))
-  unfolding fullRead
-  call-answer e f = f .answer ∙ ap fullAnswer (sym e)
-
-  pub call-buffer : lent s (listed (length l) (reading present s)) ≡ listed (length l) (reading present s) → ReadsAll s l l′ r → l′ ≡ fullBuffer present s l
-  unfolding fullBuffer fullRead
-  call-buffer e f = f .buffer ∙ ap (λ (x : Result (List Record)). leaves listing x l) (sym e)
-
-module _ (s l : List ℕ) {r : Refusal} (d : (c : Cause) × (lent s (listed (length l) (reading present s)) ≡ refuses c) × (r ≡ numbersOf c)) where
-  pub call-denied : Refused r ≡ fullAnswer (fullRead present s (length l))
-  unfolding fullRead
-  call-denied = let (c, e, k) = d in rw e (ap Refused k)
-
-  pub buffer-denied : l ≡ fullBuffer present s l
-  unfolding fullBuffer fullRead leaves
-  buffer-denied = let (c, e, k) = d in rw e
 
 -- What an accepted call has written.
 module _ (s l l′ : List ℕ) (m : Small s) (short : length s ≤ 65536) where
@@ -186,3 +143,25 @@ module _ (s l l′ : List ℕ) (m : Small s) (short : length s ≤ 65536) where
 
   pub is-well-written : {r : FullAnswer} → ReadsAll s l l′ r → Writes s l′ r
   is-well-written f = record { so = written-so (reading present s) refl (f .answer) (f .buffer) }
+
+-- THE WHOLE CALL, from the test of the source and the reading of one that may be read.
+module _ (s l : List ℕ) where
+  abbrev read : Result (List Record)
+  read = listed (length l) (reading present s)
+
+  pub may-be-read : lending.Accepted ≡ lentOf s → (length s ≤ 65536) × (foreignPlace s ≡ length s)
+  may-be-read e = let (_, short, plain) = lent-accepted s read e in (short, plain)
+
+  pub call-read : {l′ : List ℕ} {r : FullAnswer} → lending.Accepted ≡ lentOf s → ReadsAll s l l′ r → FullReads s l l′ r
+  unfolding fullRead fullBuffer
+  call-read {l′} e f =
+      let (k, short, plain) = lent-accepted s read e in
+      record {
+        answer = f .answer ∙ ap fullAnswer (sym k);
+        buffer = f .buffer ∙ ap (λ (x : Result (List Record)). leaves listing x l) (sym k);
+        written = is-well-written s l l′ (small s plain) short f;
+      }
+
+  pub call-refused : {r : Refusal} → lending.Refused r ≡ lentOf s → FullReads s l l (Refused r)
+  unfolding fullRead fullBuffer leaves
+  call-refused e = let (c, k, h) = lent-refused s read e in record { answer = rw k (ap Refused h); buffer = rw k; written = record { so = tt } }

@@ -1,11 +1,11 @@
 -- The first byte above 127, found byte by byte, and what it says of a source.
 -- Assumes nothing.
-use Prim.Native.Nat.{ℕ, zero, suc, _+_, _≤_, _<_}
+use Prim.Native.Nat.{ℕ, suc, _+_, _≤_, _<_}
 use mathlib.Core.Path.{_≡_, refl, sym, ap, subst, _∙_}
 use mathlib.Core.Bool.{Bool, true, false, _&&_}
 use mathlib.Core.List.{List, [], _∷_}
 use mathlib.Core.Option.{Option, none, some}
-use mathlib.Core.Logic.{_⊎_, inl, inr, ⊎-elim}
+use mathlib.Core.Logic.{_⊎_, ⊎-elim}
 use native.Mathlib.Omega.{arith}
 use native.Mathlib.Nat.{le-refl}
 use native.Mathlib.Numerals.{add-one}
@@ -14,8 +14,8 @@ use lib.ListN.{length, drop, getD, drop-of-length-le, length-drop}
 use lib.Seq.{drop-cons}
 use borrow.Author.Tests.{lt-ltb, le-ltb, ltb-true, ltb-false, le-leb, lt-leb}
 use Rattle.lexer.specs.Text.{if_then_else_, maybe}
-use Rattle.rules.specs.Reader.{Refusal as Cause, at, nowhere}
-use Rattle.parser.specs.declared.state.Refusal.{Refusal}
+use Rattle.rules.specs.Reader.{Cause, at, nowhere, numbersOf}
+use Rattle.refusals.specs.declared.Refusal.{Refusal}
 use Rattle.lexer.specs.Tokens.{tokenAt, sizeOf, faultNumber}
 use Rattle.lexer.specs.Scanned.{nextOf}
 use Rattle.lexer.proofs.TokensText.{tokenAt-le}
@@ -27,7 +27,6 @@ use Rattle.lexer.specs.declared.TokenRead.the-variants as found
 use Rattle.lexer.specs.declared.Next.the-variants as next
 use Rattle.rules.specs.Calls.{tokenRead, tokenCall, Result, gives, refuses, unless, mostBytes, tooLong, foreign, ascii, lent, lentAt}
 use Rattle.reader.specs.declared.Lent.the-variants.{Accepted, Refused}
-use Rattle.parser.specs.Views.{numbersOf}
 use Rattle.reader.specs.declared.TokenAnswer.the-variants as token
 use Rattle.reader.specs.Calls.{tokenAnswer}
 use Rattle.reader.specs.Lent.{isAscii, foreignPlace, lentAnswer, lentOf, lentAtOf}

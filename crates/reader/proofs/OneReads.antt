@@ -1,8 +1,8 @@
 -- The statement read by its steps: what reading one statement makes of the whole call.
 -- Assumes nothing.
-use Prim.Native.Nat.{ℕ, zero, suc, _+_, _*_, _≤_, _<_}
-use mathlib.Core.Path.{_≡_, refl, sym, ap, subst, _∙_}
-use mathlib.Core.List.{List, [], _∷_, _++_}
+use Prim.Native.Nat.{ℕ, zero, suc, _≤_, _<_}
+use mathlib.Core.Path.{_≡_, sym, ap, _∙_}
+use mathlib.Core.List.{List, [], _∷_}
 use mathlib.Core.Bool.{Bool, true, false}
 use native.Mathlib.Omega.{arith}
 use native.Mathlib.Nat.{zero-add}
@@ -11,24 +11,25 @@ use lib.ListN.{length, drop, length-drop}
 use Rattle.names.specs.Table.{operations}
 use Rattle.rules.specs.Lexemes.{tokensFrom}
 use Rattle.rules.specs.Records.{Record, listing}
-use Rattle.rules.specs.Reader.{Refusal as Cause, at, nowhere, Answer, done, refused, after, thence, arrive}
-use Rattle.rules.specs.Statements.{present, Row, State, rows, enter, statement}
-use Rattle.rules.specs.Calls.{Result, gives, refuses, unless, lentAt, inRoom, overwrite, leaves, Found, nothing, found, oneFound, oneRead, statementCall, foundBytes, statementBuffer}
-use Rattle.rules.proofs.Shape.{Small, small-split}
+use Rattle.rules.specs.Reader.{Cause, nowhere, Answer, done, refused, numbersOf}
+use Rattle.rules.specs.Statements.{present, State, rows, statement}
+use Rattle.rules.specs.Calls.{Result, refuses, unless, lentAt, inRoom, overwrite, leaves, Found, oneFound, oneRead, statementCall, foundBytes, statementBuffer}
+use Rattle.rules.proofs.Shape.{Small}
 use Rattle.rules.proofs.Table.{proper}
 use Rattle.rules.proofs.Bound.{bounded-one}
-use Rattle.records.specs.Writes.{stores, limit, Wrote}
-use Rattle.parser.specs.declared.state.Parser.{Parser}
-use Rattle.parser.specs.declared.state.Refusal.{Refusal}
-use Rattle.parser.specs.declared.statements.StatementRead.the-variants as read
+use Rattle.records.specs.Writes.{limit}
+use Rattle.state.specs.declared.Parser.{Parser}
+use Rattle.refusals.specs.declared.Refusal.{Refusal}
+use Rattle.statements.specs.declared.StatementRead.the-variants as read
 use Rattle.reader.specs.declared.StatementAnswer.{StatementAnswer}
 use Rattle.reader.specs.declared.StatementAnswer.the-variants.{Written, NoneLeft, Refused}
-use Rattle.parser.specs.Views.{numbersOf, stateOf, whole, Gives, Comes, Denies}
+use Rattle.state.specs.Views.{stateOf, whole, Gives}
 use Rattle.reader.specs.Lent.{foreignPlace}
-use Rattle.parser.specs.Statements.{begin, Started, NotStarted, ReadsStatement}
+use Rattle.statements.specs.Statements.{Started, NotStarted, ReadsStatement}
 use Rattle.reader.specs.Calls.{statementAnswer, OneRead}
-use Rattle.parser.proofs.StatementsCalls.{one-at, one-not-started}
-use Rattle.reader.proofs.FullReads.{stored-over, small}
+use Rattle.statements.proofs.Calls.{one-at, one-not-started}
+use Rattle.reader.proofs.FullReads.{small}
+use Rattle.records.proofs.Writes.{stored-over}
 
 small-drop : (n : ℕ) (s : List ℕ) → Small s → Small (drop n s)
 small-drop zero s m = m

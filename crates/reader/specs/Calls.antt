@@ -1,8 +1,8 @@
--- The answers of the calls, as the code gives them: document 01's numbers and values for each case.
+-- The answers of the calls, as the code gives them: the numbers and values of RULES 9 and 11.1 for each case.
 use Prim.Native.Nat.{ℕ, _+_, _*_, _≤_}
 use mathlib.Core.Path.{_≡_}
 use mathlib.Core.List.{List}
-use mathlib.Core.Bool.{Bool, true, false}
+use mathlib.Core.Bool.{true, false}
 use lib.ListN.{length, take, drop}
 use Rattle.lexer.specs.Text.{maybe}
 use Rattle.rules.specs.Lexemes.{tokensFrom}
@@ -12,14 +12,14 @@ use Rattle.lexer.specs.Tokens.{lengthOf}
 use Rattle.lexer.specs.declared.Token.{Token}
 use Rattle.rules.specs.Records.{Record, listing}
 use Rattle.rules.specs.Statements.{present, rows, reading}
-use Rattle.rules.specs.Calls.{Result, gives, refuses, listed, leaves, Found, nothing, found, oneFound, oneRead, foundBytes}
+use Rattle.rules.specs.Calls.{Result, gives, refuses, listed, leaves, Found, nothing, found, oneFound, oneRead, foundBytes, fullRead, fullBuffer}
 use Rattle.reader.specs.declared.TokenAnswer.{TokenAnswer}
 use Rattle.reader.specs.declared.TokenAnswer.the-variants as token
 use Rattle.reader.specs.declared.StatementAnswer.{StatementAnswer}
 use Rattle.reader.specs.declared.StatementAnswer.the-variants as statement
 use Rattle.reader.specs.declared.FullAnswer.{FullAnswer}
 use Rattle.reader.specs.declared.FullAnswer.the-variants as full
-use Rattle.parser.specs.Views.{numbersOf}
+use Rattle.rules.specs.Reader.{numbersOf}
 
 -- the token read at a place, with the state behind it
 abbrev pub tokenAnswer : ℕ → Result Token → TokenAnswer
@@ -51,3 +51,9 @@ WritesAs s l (full.Refused r) = Unit {0}
 
 pub record Writes (s l : List ℕ) (r : FullAnswer) : Type 0 where
   pub so : WritesAs s l r
+
+-- THE FULL READ, of both functions: the answer, what the buffer holds afterwards, and what holds of it.
+pub record FullReads (s l l′ : List ℕ) (r : FullAnswer) : Type 0 where
+  pub answer : r ≡ fullAnswer (fullRead present s (length l))
+  pub buffer : l′ ≡ fullBuffer present s l
+  pub written : Writes s l′ r

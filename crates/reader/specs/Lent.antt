@@ -1,13 +1,13 @@
 -- Whether a source is one to read, as the code answers it.
 use Prim.Native.Nat.{ℕ}
 use mathlib.Core.Bool.{Bool, true, false}
-use mathlib.Core.List.{List, []}
+use mathlib.Core.List.{List}
 use lib.ListN.{length}
 use Rattle.lexer.specs.Text.{maybe}
 use Rattle.rules.specs.Calls.{Result, gives, refuses, foreign, lent, lentAt}
 use Rattle.reader.specs.declared.Lent.{Lent}
 use Rattle.reader.specs.declared.Lent.the-variants.{Accepted, Refused}
-use Rattle.parser.specs.Views.{numbersOf}
+use Rattle.rules.specs.Reader.{numbersOf}
 
 -- whether no byte is above 127
 unfoldable pub isAscii : List ℕ → Bool

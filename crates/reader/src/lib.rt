@@ -3,28 +3,31 @@ use lexer::Cursor;
 use lexer::Fault;
 use lexer::Next;
 use lexer::Token;
-use parser::state::Parsed;
-use parser::state::Parser;
-use parser::state::Refusal;
-use parser::state::Step;
-use parser::state::refused_at;
-use parser::statements::StatementRead;
-use parser::statements::start;
-use parser::statements::statement;
-use parser::statements::statements;
+use refusals::BINARY_LARGER_DIGIT;
+use refusals::LISTING_NO_ROOM;
+use refusals::NO_SUCH_PLACE;
+use refusals::NOT_ASCII;
+use refusals::PREFIXED_TOO_LARGE;
+use refusals::Refusal;
+use refusals::SOURCE_TOO_LONG;
+use refusals::refused_at;
+use state::Parsed;
+use state::Parser;
+use state::Step;
+use statements::StatementRead;
+use statements::start;
+use statements::statement;
+use statements::statements;
 ghost use mathlib.Core.Path.{_≡_};
-ghost use Prim.Native.Nat.{ℕ, _≤_};
+ghost use Prim.Native.Nat.{_≤_, _<_};
 ghost use lib.ListN.{length};
-ghost use Prim.Native.Nat.{_*_, _<_};
-ghost use mathlib.Core.List.{_++_};
-ghost use lib.ListN.{take, drop};
 ghost use Rattle.names.specs.Table.{operations};
-ghost use Rattle.rules.specs.Records.{listing};
+ghost use Rattle.rules.specs.Calls.{Short};
 ghost use Rattle.rules.specs.Calls as rules;
-ghost use Rattle.rules.specs.Statements.{present, reading};
+ghost use Rattle.rules.specs.Statements.{present};
 ghost use Rattle.reader.specs.Lent.{isAscii, foreignPlace, lentOf, lentAtOf};
-ghost use Rattle.parser.specs.Statements.{Started};
-ghost use Rattle.reader.specs.Calls.{ReadsAll, OneRead, Writes, tokenAnswer, fullAnswer, statementAnswer};
+ghost use Rattle.statements.specs.Statements.{Started};
+ghost use Rattle.reader.specs.Calls.{ReadsAll, OneRead, FullReads, tokenAnswer, statementAnswer};
 ghost use Rattle.lexer.specs.Tokens.{faultNumber};
 
 // The token and the state behind it.
@@ -51,6 +54,9 @@ pub enum Lent {
     Accepted,
     Refused(Refusal),
 }
+
+// The most bytes that a source may have.
+pub const SOURCE_MAX: usize = 65536;
 
 // Whether no byte is above 127. Only the largest is asked, so that many bytes are taken at a time.
 fn is_ascii(source: &[u8]) -> bool
@@ -89,13 +95,13 @@ fn foreign(source: &[u8]) -> usize
 pub fn readable(source: &[u8]) -> Lent
     ensures { λ r. ⌜ r ≡ lentOf (now (source .entry)) ⌝ }
 {
-    if 65536 < source.len() {
-        return Lent::Refused(refused_at(1, 0, 0));
+    if SOURCE_MAX < source.len() {
+        return Lent::Refused(refused_at(SOURCE_TOO_LONG, 0, 0));
     }
     let place = foreign(source);
     if place < source.len() {
         let from = place as u32;
-        return Lent::Refused(refused_at(2, from, from + 1));
+        return Lent::Refused(refused_at(NOT_ASCII, from, from + 1));
     }
     Lent::Accepted
 }
@@ -105,32 +111,20 @@ fn readable_at(source: &[u8], place: usize) -> Lent
     ensures { λ r. ⌜ r ≡ lentAtOf (now (source .entry)) place ⌝ }
 {
     if source.len() < place {
-        return Lent::Refused(refused_at(42, 0, 0));
+        return Lent::Refused(refused_at(NO_SUCH_PLACE, 0, 0));
     }
     readable(source)
-}
-
-// The first `n` bytes.
-fn copy(out: &mut [u8], kept: &[u8], n: usize)
-    requires { ⌜ (n ≤ length (now kept)) × (n ≤ length (now out)) ⌝ }
-    ensures { λ _. ⌜ now (out .exit) ≡ rules.overwrite (take n (now (kept .entry))) (now (out .entry)) ⌝ }
-{
-    let mut i: usize = 0;
-    while i < n {
-        out[i] = kept[i];
-        i += 1;
-    }
 }
 
 // All statements, read into `kept`, and copied where they fit there; else read again into `out`.
 fn keep_and_copy(
     source: &[u8],
-    table: &[u8; 936],
+    table: &[u8],
     kept: &mut [u8],
     out: &mut [u8],
     p: Parser,
 ) -> FullAnswer
-    requires { ⌜ (length (now source) ≤ 65536) × (foreignPlace (now source) ≡ length (now source)) × (now table ≡ operations) × Started (now source) 0 p ⌝ }
+    requires { ⌜ Short (now source) × (foreignPlace (now source) ≡ length (now source)) × (now table ≡ operations) × Started (now source) 0 p ⌝ }
     ensures { λ r. ⌜ ReadsAll (now (source .entry)) (now (out .entry)) (now (out .exit)) r ⌝ }
 {
     match statements(source, table, kept, 0, p) {
@@ -138,10 +132,10 @@ fn keep_and_copy(
         Parsed::Done(_, n) => {
             let size = n as usize;
             if out.len() < size {
-                return FullAnswer::Refused(refused_at(4, 0, 0));
+                return FullAnswer::Refused(refused_at(LISTING_NO_ROOM, 0, 0));
             }
             if size <= kept.len() {
-                copy(out, kept, size);
+                bytes::copy(&kept[0..size], out);
                 return FullAnswer::Written(n);
             }
             match statements(source, table, out, 0, p) {
@@ -153,8 +147,8 @@ fn keep_and_copy(
 }
 
 // They are kept in a local buffer of four times the source or more, which most listings fit; a larger one would cost more to clear.
-fn all_statements(source: &[u8], table: &[u8; 936], out: &mut [u8], p: Parser) -> FullAnswer
-    requires { ⌜ (length (now source) ≤ 65536) × (foreignPlace (now source) ≡ length (now source)) × (now table ≡ operations) × Started (now source) 0 p ⌝ }
+fn all_statements(source: &[u8], table: &[u8], out: &mut [u8], p: Parser) -> FullAnswer
+    requires { ⌜ Short (now source) × (foreignPlace (now source) ≡ length (now source)) × (now table ≡ operations) × Started (now source) 0 p ⌝ }
     ensures { λ r. ⌜ ReadsAll (now (source .entry)) (now (out .entry)) (now (out .exit)) r ⌝ }
 {
     if source.len() <= 1024 {
@@ -175,7 +169,7 @@ fn all_statements(source: &[u8], table: &[u8; 936], out: &mut [u8], p: Parser) -
 
 // All statements of a source that may be read.
 fn read_all(source: &[u8], out: &mut [u8]) -> FullAnswer
-    requires { ⌜ (length (now source) ≤ 65536) × (foreignPlace (now source) ≡ length (now source)) ⌝ }
+    requires { ⌜ Short (now source) × (foreignPlace (now source) ≡ length (now source)) ⌝ }
     ensures { λ r. ⌜ ReadsAll (now (source .entry)) (now (out .entry)) (now (out .exit)) r ⌝ }
 {
     match start(source, 0) {
@@ -187,11 +181,24 @@ fn read_all(source: &[u8], out: &mut [u8]) -> FullAnswer
     }
 }
 
+// The same with no buffer of its own: they are measured, and where they fit read again into `out`.
+fn read_lean(source: &[u8], out: &mut [u8]) -> FullAnswer
+    requires { ⌜ Short (now source) × (foreignPlace (now source) ≡ length (now source)) ⌝ }
+    ensures { λ r. ⌜ ReadsAll (now (source .entry)) (now (out .entry)) (now (out .exit)) r ⌝ }
+{
+    match start(source, 0) {
+        Step::Stopped(r) => FullAnswer::Refused(r),
+        Step::Ahead(p) => {
+            let table = names::table();
+            let mut nothing = [0u8; 0];
+            keep_and_copy(source, &table, &mut nothing, out, p)
+        }
+    }
+}
+
 // All statements of a source: their records in `out`, if there is room for all of them.
 pub fn full_read(source: &[u8], out: &mut [u8]) -> FullAnswer
-    ensures answer { λ r. ⌜ r ≡ fullAnswer (rules.fullRead present (now (source .entry)) (length (now (out .entry)))) ⌝ }
-    ensures buffer { λ _. ⌜ now (out .exit) ≡ rules.fullBuffer present (now (source .entry)) (now (out .entry)) ⌝ }
-    ensures written { λ r. ⌜ Writes (now (source .entry)) (now (out .exit)) r ⌝ }
+    ensures { λ r. ⌜ FullReads (now (source .entry)) (now (out .entry)) (now (out .exit)) r ⌝ }
 {
     match readable(source) {
         Lent::Refused(r) => FullAnswer::Refused(r),
@@ -199,15 +206,26 @@ pub fn full_read(source: &[u8], out: &mut [u8]) -> FullAnswer
     }
 }
 
+// The full read for a short stack: the same answers and bytes, read twice.
+pub fn full_read_lean(source: &[u8], out: &mut [u8]) -> FullAnswer
+    ensures { λ r. ⌜ FullReads (now (source .entry)) (now (out .entry)) (now (out .exit)) r ⌝ }
+{
+    match readable(source) {
+        Lent::Refused(r) => FullAnswer::Refused(r),
+        Lent::Accepted => read_lean(source, out),
+    }
+}
+
 // Measured first, and written where it fits.
 fn one_statement(
     source: &[u8],
     place: u32,
-    table: &[u8; 936],
+    table: &[u8],
     out: &mut [u8],
     p: Parser,
 ) -> StatementAnswer
-    requires { ⌜ (length (now source) ≤ 65536) × (foreignPlace (now source) ≡ length (now source)) × (place ≤ length (now source)) × (now table ≡ operations) × Started (now source) place p ⌝ }
+    requires { ⌜ Short (now source) × (foreignPlace (now source) ≡ length (now source)) × (place ≤ length (now source)) × (now table ≡ operations)
+        × Started (now source) place p ⌝ }
     ensures { λ r. ⌜ OneRead (now (source .entry)) place (now (out .entry)) (now (out .exit)) r ⌝ }
 {
     let mut nothing = [0u8; 0];
@@ -217,7 +235,7 @@ fn one_statement(
         StatementRead::Read(q, n) => {
             let bytes = n as usize;
             if out.len() < bytes {
-                return StatementAnswer::Refused(refused_at(4, 0, 0));
+                return StatementAnswer::Refused(refused_at(LISTING_NO_ROOM, 0, 0));
             }
             match statement(source, table, out, 0, p) {
                 StatementRead::Refused(r) => StatementAnswer::Refused(r),
@@ -230,7 +248,7 @@ fn one_statement(
 
 // The statement at a place of a source that is one to read.
 fn read_one(source: &[u8], place: u32, out: &mut [u8]) -> StatementAnswer
-    requires { ⌜ (length (now source) ≤ 65536) × (foreignPlace (now source) ≡ length (now source)) × (place ≤ length (now source)) ⌝ }
+    requires { ⌜ Short (now source) × (foreignPlace (now source) ≡ length (now source)) × (place ≤ length (now source)) ⌝ }
     ensures { λ r. ⌜ OneRead (now (source .entry)) place (now (out .entry)) (now (out .exit)) r ⌝ }
 {
     match start(source, place) {
@@ -257,8 +275,8 @@ fn fault_number(fault: Fault) -> u32
     ensures { λ r. ⌜ r ≡ faultNumber fault ⌝ }
 {
     match fault {
-        Fault::LargerDigit => 30,
-        Fault::TooLarge => 31,
+        Fault::LargerDigit => BINARY_LARGER_DIGIT,
+        Fault::TooLarge => PREFIXED_TOO_LARGE,
     }
 }
 

@@ -2,12 +2,13 @@
 -- Assumes nothing.
 use Prim.Native.Nat.{ℕ, suc, _+_, _-_, _≤_, _<_}
 use mathlib.Core.Path.{_≡_, refl, sym, ap, _∙_}
-use mathlib.Core.List.{List, [], _∷_, _++_, append-nil}
+use mathlib.Core.List.{List, [], _∷_, _++_}
 use native.Mathlib.Omega.{arith}
-use native.Mathlib.Nat.{add-zero, add-suc, suc-add, le-refl, le-trans}
+use native.Mathlib.Nat.{add-zero, add-suc, suc-add, le-refl, le-trans, zero-add}
 use native.Mathlib.Numerals.{add-one}
-use lib.ListN.{length, length-append, set, take, drop}
-use lib.Seq.{sets, sets-eq, length-sets, set-comm, take-set-le, take-take}
+use lib.ListN.{length, length-append, set, take, drop, length-drop}
+use lib.Seq.{sets, sets-eq, length-sets, set-comm, take-set-le, take-take, take-all, take-append-seam}
+use Rattle.rules.specs.Calls.{overwrite}
 use Rattle.records.specs.Writes.{stores, limit, Wrote}
 
 sets-append : (l : List ℕ) (i : ℕ) (a b : List ℕ) → sets l i (a ++ b) ≡ sets (sets l i a) (i + length a) b
@@ -116,3 +117,16 @@ four l i a b c d =
     let f : i + 2 ≡ suc (suc i) = omega arith in
     let g : i + 3 ≡ suc (suc (suc i)) = omega arith in
     rw (e, f, g)
+
+-- bytes stored from the first on
+pub stored-over : (l b : List ℕ) → length b ≤ length l → stores l 0 b ≡ overwrite b l
+unfolding overwrite
+stored-over l b h = stores-room l 0 b (omega arith) ∙ rw (zero-add (length b))
+
+pub taken-over : (l b : List ℕ) → length b ≤ length l → take (length b) (stores l 0 b) ≡ b
+unfolding overwrite
+taken-over l b h = rw (stored-over l b h) (take-append-seam b (drop (length b) l))
+
+-- the part of a slice from a place to its end
+pub rest-of : (l : List ℕ) (a : ℕ) → take (length l - a) (drop a l) ≡ drop a l
+rest-of l a = take-all (length l - a) (drop a l) (omega (arith, length-drop a l))

@@ -1,8 +1,11 @@
 // The records of a listing as bytes: a two-letter mark and fields of 4 bytes, low first.
 // A writer writes only where the buffer has room and gives the place behind its record, so an empty buffer measures.
+pub mod marks;
+pub mod moves;
+
 ghost use mathlib.Core.Path.{_≡_};
 ghost use mathlib.Core.List.{[], _∷_};
-ghost use Prim.Native.Nat.{ℕ, _+_, _≤_};
+ghost use Prim.Native.Nat.{_+_, _≤_};
 ghost use Rattle.rules.specs.Records.{OD, OX, LI, field, fields, encode};
 ghost use Rattle.records.specs.Writes.{limit, Wrote};
 

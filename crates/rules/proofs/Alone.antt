@@ -9,7 +9,7 @@ use lib.Dec.{eqb, ltb}
 use lib.ListN.{length, length-append}
 use Rattle.lexer.specs.Text.{if_then_else_, maybe, is}
 use Rattle.rules.specs.Records.{Record, listing}
-use Rattle.rules.specs.Reader.{at, nowhere, encoding, valuesOf, Answer, done, refused}
+use Rattle.rules.specs.Reader.{at, nowhere, encoding, numbersOf, Answer, done, refused}
 use Rattle.rules.specs.Statements.{Profile, State, Outcome, accepted, refusal, outcome, reading}
 use Rattle.rules.specs.Calls.{Result, gives, refuses, unless, tooLong, foreign, ascii, lent, inRoom, listed, fullRead, enough}
 use Rattle.rules.specs.Claims.{Each}
@@ -22,7 +22,7 @@ use Rattle.rules.proofs.Exchange.{Closed}
 -- Whether a reading lacks a content.
 unfoldable pub openIn : Outcome → Bool
 openIn (accepted w) = false
-openIn (refusal r) = eqb (valuesOf r .number) 34
+openIn (refusal r) = eqb (numbersOf r .number) 34
 
 pub listed-open : (room : ℕ) (o : Outcome) → isOpen (listed room o) ≡ openIn o
 unfolding isOpen listed inRoom unless openIn

@@ -10,7 +10,7 @@ use Rattle.lexer.specs.Text.{if_then_else_, maybe}
 use Rattle.rules.specs.Lexemes.{Kind, word, number, quoted, mark, newline, blank, comment, invalid, end, bad, Lexeme, nameIn, operationIn}
 use Rattle.names.specs.Names.{directives}
 use Rattle.rules.specs.Records.{Record, ST, LT}
-use Rattle.rules.specs.Reader.{Refusal, at, Answer, done, refused, Reader, Line, after, thence, _>>=_, _>>_, return, write, refuse, refusedAs, arrive, ahead, kind, refuseHere, isLineEnd}
+use Rattle.rules.specs.Reader.{Cause, at, Answer, done, refused, Reader, Line, after, thence, _>>=_, _>>_, return, write, refuse, refusedAs, arrive, ahead, kind, refuseHere, isLineEnd}
 use Rattle.rules.specs.Operands.{isWord}
 use Rattle.rules.proofs.Move.{Mild, Stays, Gentle, bad-mild, next-mild}
 use Rattle.rules.proofs.MoveState.{ahead-mild, passed-mild, left-mild, here-mild, expression-mild, operands-mild, label-mild, literals-mild}
@@ -105,13 +105,13 @@ module _ (profile : Profile) where
   -- Runs of statements, with what the last one gives.
   pub data Reads : State → Answer State (Unit {0}) → Type 0 where
     stop : {s t : State} {w : List Record} → statement profile s ≡ done w false t → Reads s (done w tt t)
-    fail : {s : State} {r : Refusal} → statement profile s ≡ refused r → Reads s (refused r)
+    fail : {s : State} {r : Cause} → statement profile s ≡ refused r → Reads s (refused r)
     go : {s t : State} {w : List Record} {p : Answer State (Unit {0})} → statement profile s ≡ done w true t → Reads t p → Reads s (after w p)
 
   -- what comes of a statement's answer
   pub data Continues : Answer State Bool → Answer State (Unit {0}) → Type 0 where
     stop : {t : State} {w : List Record} → Continues (done w false t) (done w tt t)
-    fail : {r : Refusal} → Continues (refused r) (refused r)
+    fail : {r : Cause} → Continues (refused r) (refused r)
     go : {t : State} {w : List Record} {p : Answer State (Unit {0})} → Reads t p → Continues (done w true t) (after w p)
 
   pub continues : {s : State} {p : Answer State (Unit {0})} → Reads s p → Continues (statement profile s) p
@@ -155,7 +155,7 @@ module _ (profile : Profile) where
     -- Two answers agree: the same records and value, in states that R relates; the same refusal. Late ones may also lack a content, or end before a bad token.
     pub data Agree (c : Bool) (R : State → State → Type 0) {A : Type 0} : Answer State A → Answer State A → Type 0 where
       both : {w : List Record} {a : A} {s t : State} → R s t → Agree c R (done w a s) (done w a t)
-      neither : {r : Refusal} → Mild r → Agree c R (refused r) (refused r)
+      neither : {r : Cause} → Mild r → Agree c R (refused r) (refused r)
       lacking : {f t : ℕ} {q : Answer State A} → Late c → Pending q → Agree c R (refused (at 34 f t)) q
       halted : {w : List Record} {a : A} {u : State} {n : ℕ} → Late c → Ending u → refusedAs (b .first .kind) ≡ some n → Agree c R (done w a u) (refused (at n (b .first .from) (b .first .to)))
 
@@ -178,7 +178,7 @@ module _ (profile : Profile) where
     unfolding write
     writes r = record { law = λ h. both h }
 
-    refuses : {c : Bool} {R R′ : State → State → Type 0} {A : Type 0} (r : Refusal) → Mild r → Keeps b bs c R R′ {A = A} (refuse r)
+    refuses : {c : Bool} {R R′ : State → State → Type 0} {A : Type 0} (r : Cause) → Mild r → Keeps b bs c R R′ {A = A} (refuse r)
     unfolding refuse
     refuses r m = record { law = λ h. neither m }
 
@@ -237,7 +237,7 @@ module _ (profile : Profile) where
     -- Past empty lines: still among the rows; or at the end, where the second reading is past the empty lines of the further rows.
     pub data Skipped : Answer State (Unit {0}) → Answer State (Unit {0}) → Type 0 where
       still : {s t : State} → In s t → isLineEnd (s .line .here .kind) ≡ false → Skipped (done [] tt s) (done [] tt t)
-      stopped : {r : Refusal} → Mild r → Skipped (refused r) (refused r)
+      stopped : {r : Cause} → Mild r → Skipped (refused r) (refused r)
       reached : (u : State) → Ending u → Skipped (done [] tt u) (coming b bs)
 
     -- the first reading is at its end, the second goes to the further rows
@@ -368,7 +368,7 @@ module _ (profile : Profile) where
     -- A statement.
     pub data Next : Answer State Bool → Answer State Bool → Type 0 where
       went : {w : List Record} {s t : State} → (Open es b bs) s t → Next (done w true s) (done w true t)
-      stopped : {r : Refusal} → Mild r → Next (refused r) (refused r)
+      stopped : {r : Cause} → Mild r → Next (refused r) (refused r)
       lacks : {f t : ℕ} {q : Answer State Bool} → Pending b bs q → Next (refused (at 34 f t)) q
       halts : {w : List Record} {u : State} {n : ℕ} → Ending u → refusedAs (b .first .kind) ≡ some n → Next (done w true u) (refused (at n (b .first .from) (b .first .to)))
       none-left : (u : State) → Ending u → Next (done [] false u) (thence (coming b bs) (λ _. begun profile))
@@ -422,7 +422,7 @@ module _ (profile : Profile) where
     -- What the second reading does where the first gives p.
     pub data Follows : Answer State (Unit {0}) → Answer State (Unit {0}) → Type 0 where
       on : {w : List Record} {u : State} {q : Answer State (Unit {0})} → Begins (b ∷ bs) q → Follows (done w tt u) (after w q)
-      same : {r : Refusal} → Mild r → Follows (refused r) (refused r)
+      same : {r : Cause} → Mild r → Follows (refused r) (refused r)
       late : {f t : ℕ} {a : Answer State Bool} (w : List Record) {q : Answer State (Unit {0})} → Pending b bs a → Continues a q → Follows (refused (at 34 f t)) (after w q)
 
     follows-after : (v : List Record) {p q : Answer State (Unit {0})} → Follows p q → Follows (after v p) (after v q)
@@ -452,7 +452,7 @@ module _ (profile : Profile) where
     stop-case (halts e h) z c = absurd (true≢false cc)
     stop-case {w = w} (none-left u e) z c = let y : w ≡ [] = cc in plainly y (begins c)
 
-    fail-case : {pa qa : Answer State Bool} {r : Refusal} {q : Answer State (Unit {0})} → Next pa qa → pa ≡ refused r → Continues qa q → Follows (refused r) q
+    fail-case : {pa qa : Answer State Bool} {r : Cause} {q : Answer State (Unit {0})} → Next pa qa → pa ≡ refused r → Continues qa q → Follows (refused r) q
     fail-case (went h) z c = absurd (true≢false cc)
     fail-case {r = r} (Next.stopped {r = r′} m) z Continues.fail = let y : r ≡ r′ = cc in rw y (same m)
     fail-case {r = r} {q} (lacks {f} {t} p) z c = let y : r ≡ at 34 f t = cc in rw (y, ← after-nil q) (late [] p c)

@@ -17,7 +17,7 @@ use Rattle.lexer.specs.declared.TokenRead.the-variants.{Read, Refused}
 use Rattle.lexer.proofs.TokensText.{Begun, tokenAt-begun, tokenAt-some, tokenAt-le}
 use Rattle.rules.specs.Lexemes.{kindOf, Lexeme, isGap, lexeme, put, tokensBy, tokensFrom, textOf}
 use Rattle.rules.specs.Records.{Record, listing}
-use Rattle.rules.specs.Reader.{Refusal, at, Answer, done, refused, after, arrive, refusedAs}
+use Rattle.rules.specs.Reader.{Cause, at, Answer, done, refused, after, arrive, refusedAs}
 use Rattle.rules.specs.Operands.{isWord, isNumber}
 use Rattle.rules.specs.Statements.{Profile, Row, State, rows, firstOf, enter, statement, accepted, readFrom, reading}
 use Rattle.rules.specs.Calls.{oneRead}
@@ -145,7 +145,7 @@ spaced p zero (c ∷ cs) m h =
     put-spaced p t (c ∷ cs) (tokensFrom (suc p) (pred (sizeOf t)) cs)
     (λ w. rw e (lead (suc p) (pred (sizeOf t)) cs (m .1) (omega arith) (stops-behind c cs w))) (spaced (suc p) (pred (sizeOf t)) cs (m .1) (omega arith))
 
-never : {S A : Type 0} {r : Refusal} {w : List Record} {a : A} {t : S} → refused r ≡ done w a t → ⊥
+never : {S A : Type 0} {r : Cause} {w : List Record} {a : A} {t : S} → refused r ≡ done w a t → ⊥
 never e = true≢false cc
 
 module _ (profile : Profile) (proper : Proper (profile .table)) where

@@ -1,7 +1,7 @@
 -- What accepted calls say of what was lent: the source is short and its bytes are ASCII, and the records are those of the reading.
 use mathlib.Core.Path.{_≡_, refl}
 use mathlib.Core.Bool.{Bool, true, false, true≢false}
-use mathlib.Core.List.{List, [], _∷_, _++_}
+use mathlib.Core.List.{List, [], _∷_}
 use mathlib.Core.Option.{Option, none, some}
 use Prim.Native.Nat.{ℕ, suc, _≤_}
 use native.Mathlib.Omega.{arith}
@@ -10,12 +10,12 @@ use lib.ListN.{length}
 use borrow.Author.Tests.{le-ltb, ltb-false}
 use Rattle.lexer.specs.Text.{if_then_else_, maybe}
 use Rattle.rules.specs.Records.{Record, listing}
-use Rattle.rules.specs.Reader.{Refusal, at, nowhere}
+use Rattle.rules.specs.Reader.{Cause, at, nowhere}
 use Rattle.rules.specs.Statements.{Profile, Outcome, accepted, refusal, reading}
 use Rattle.rules.specs.Calls.{Result, gives, refuses, unless, mostBytes, tooLong, foreign, ascii, lent, lentAt, inRoom, listed, fullRead}
 use Rattle.rules.proofs.Shape.{UpTo, up-to-more, Small}
 
-pub unless-gives : {A : Type 0} (b : Bool) (r : Refusal) (x : Result A) (y : A) → unless b r x ≡ gives y → (b ≡ false) × (x ≡ gives y)
+pub unless-gives : {A : Type 0} (b : Bool) (r : Cause) (x : Result A) (y : A) → unless b r x ≡ gives y → (b ≡ false) × (x ≡ gives y)
 unfolding unless
 unless-gives true r x y h = absurd (true≢false cc)
 unless-gives false r x y h = (refl, h)

@@ -3,7 +3,7 @@ use mathlib.Core.Path.{_≡_, refl, sym, subst}
 use mathlib.Core.Bool.{Bool, true, false, _&&_, _||_, true≢false}
 use mathlib.Core.List.{List, [], _∷_, _++_, map}
 use mathlib.Core.Option.{Option, none, some}
-use Prim.Native.Nat.{ℕ, zero, suc, _+_, _*_, _-_, _≤_, zero-le}
+use Prim.Native.Nat.{ℕ, zero, suc, _+_, _*_, _≤_, zero-le}
 use Prim.Native.String.{String}
 use native.Mathlib.Omega.{arith}
 use native.Mathlib.Nat.{le-refl}
@@ -15,7 +15,7 @@ use Rattle.lexer.proofs.Branches.{and-split}
 use Rattle.rules.specs.Lexemes.{Kind, Lexeme, textOf, nameIn, operationIn}
 use Rattle.names.specs.Names.{directives, named, operationNamed, placeFrom}
 use Rattle.rules.specs.Records.{Record, LT, field, fields, encode}
-use Rattle.rules.specs.Reader.{at, done, Reader, Line, thence, _>>=_, _>>_, write, arrive, ahead, kind, passed, isLineEnd}
+use Rattle.rules.specs.Reader.{at, done, Reader, Line, thence, _>>=_, write, arrive, ahead, kind, passed, isLineEnd}
 use Rattle.rules.specs.Operands.{isWord}
 use Rattle.rules.specs.Statements.{Profile, Row, State, over, inLine, firstOf, enter, stepRow, nextRow, lineEnd, skip, skipLines, passing, rep, repne, instruction, constant, someData, dataOf, line, content, times, begun, statement}
 use Rattle.rules.proofs.TokenKinds.{word-inside, asked}

@@ -11,7 +11,7 @@ use Rattle.lexer.specs.Text.{if_then_else_, maybe, is}
 use Rattle.rules.specs.Lexemes.{Kind, word, number, quoted, mark, newline, blank, comment, invalid, end, bad, Lexeme, tokensFrom, nameIn, textOf}
 use Rattle.names.specs.Names.{registers, segments, sizes}
 use Rattle.rules.specs.Records.{IN, field}
-use Rattle.rules.specs.Reader.{Refusal, Answer, done, refused, Reader, Line, after, thence, _>>=_, _>>_, return, write, step, next, ahead, kind, passed, isMark, isLineEnd}
+use Rattle.rules.specs.Reader.{Cause, Answer, done, refused, Reader, Line, after, thence, _>>=_, _>>_, return, write, step, next, ahead, kind, passed, isMark, isLineEnd}
 use Rattle.rules.specs.Expressions.{operatorOf, leftLevel, rightLevel, infixes, expr}
 use Rattle.rules.specs.Operands.{immediateOrFar, memory, operandSized}
 use Rattle.rules.specs.Statements.{Profile, rows, over, inLine, literalOf, literals, readRows}
@@ -25,7 +25,7 @@ use Rattle.rules.proofs.Progress.{Ended, size, Below, closed, next-fall
 use Rattle.rules.proofs.Cut.{rowsFrom, begins-only, gives, gives-with}
 
 -- Two readers agree where the one before them leaves P.
-thence-same : {S A B : Type 0} (P : S → Type 0) (M : Refusal → Type 0) (k k′ : A → Reader S B) → ((a : A) (s : S) → P s → k a s ≡ k′ a s) → (p : Answer S A) → Stays P M p → thence p k ≡ thence p k′
+thence-same : {S A B : Type 0} (P : S → Type 0) (M : Cause → Type 0) (k k′ : A → Reader S B) → ((a : A) (s : S) → P s → k a s ≡ k′ a s) → (p : Answer S A) → Stays P M p → thence p k ≡ thence p k′
 unfolding thence
 thence-same P M k k′ e (done w a s) h = ap (after w) (e a s h)
 thence-same P M k k′ e (refused r) h = refl

@@ -13,7 +13,7 @@ use Rattle.lexer.specs.Tokens.{tokenAt, sizeOf}
 use Rattle.lexer.specs.declared.TokenRead.{TokenRead}
 use Rattle.rules.specs.Lexemes.{newline, Lexeme, isGap, kindOf, put, lexeme, tokensBy, tokensFrom}
 use Rattle.rules.specs.Records.{Record, ST, LT, moveRecord}
-use Rattle.rules.specs.Reader.{Refusal, at, nowhere, encoding, Answer, done, refused, Reader, Line, after, thence, _>>=_, _>>_, return, write, refusedAs, arrive, ahead, kind, isLineEnd}
+use Rattle.rules.specs.Reader.{Cause, at, nowhere, encoding, Answer, done, refused, Reader, Line, after, thence, _>>=_, _>>_, return, write, refusedAs, arrive, ahead, kind, isLineEnd}
 use Rattle.rules.specs.Statements.{Profile, Row, State, over, inLine, firstOf, enter, rows, push, skip, skipLines, line, content, times, begun, statement, statements, readRows, accepted, refusal, outcome, readFrom}
 use Rattle.rules.proofs.Move.{same, carry, after-carry, Mild, moveToken, moveRefusal, moveLine}
 use Rattle.rules.proofs.MoveState.{moveRow, moveState, statement-shifts, unit-state, unit-row}
@@ -26,7 +26,7 @@ use Rattle.rules.proofs.Append.{after-nil, Reads, Continues, continues,
 use Rattle.rules.proofs.Progress.{AllEnded, total, size, Below, enough, only}
 
 -- A reading that lacks the content of a `times`.
-abbrev pub Lack : Refusal → Type 0
+abbrev pub Lack : Cause → Type 0
 Lack (at n f t) = eqb n 34 ≡ true
 Lack (nowhere n) = ⊥
 Lack (encoding f t a b) = ⊥
@@ -35,7 +35,7 @@ abbrev pub IsOpen : {S A : Type 0} → Answer S A → Type 0
 IsOpen (done w a s) = ⊥
 IsOpen (refused r) = Lack r
 
-pub not-both : (r : Refusal) → Mild r → Lack r → ⊥
+pub not-both : (r : Cause) → Mild r → Lack r → ⊥
 not-both (at n f t) m l = true≢false (rw l at m)
 not-both (nowhere n) m l = l
 not-both (encoding f t a b) m l = l
@@ -275,17 +275,17 @@ unfolding outcome
 run-accepted (done v x u) w e = let z : v ≡ w = cc in (u, ap (λ (l : List Record). done l tt u) z)
 run-accepted (refused r) w e = absurd (true≢false cc)
 
-run-refused : (a : Answer State (Unit {0})) (r : Refusal) → outcome a ≡ refusal r → a ≡ refused r
+run-refused : (a : Answer State (Unit {0})) (r : Cause) → outcome a ≡ refusal r → a ≡ refused r
 unfolding outcome
 run-refused (done v x u) r e = absurd (true≢false cc)
 run-refused (refused q) r e = cc
 
 module _ (profile : Profile) where
   -- what comes of equal answers
-  refused-open : {r : Refusal} {q : Answer State (Unit {0})} → Continues profile (refused r) q → IsOpen q → Lack r
+  refused-open : {r : Cause} {q : Answer State (Unit {0})} → Continues profile (refused r) q → IsOpen q → Lack r
   refused-open Continues.fail h = h
 
-  open-refused : {r : Refusal} {q : Answer State (Unit {0})} → Continues profile (refused r) q → Lack r → IsOpen q
+  open-refused : {r : Cause} {q : Answer State (Unit {0})} → Continues profile (refused r) q → Lack r → IsOpen q
   open-refused Continues.fail h = h
 
   true-open : {w v : List Record} {t : State} {q q′ : Answer State (Unit {0})} → Continues profile (done w true t) q → Continues profile (done v true t) q′ → IsOpen q → IsOpen q′
@@ -324,7 +324,7 @@ module _ (profile : Profile) where
     unfolding coming arrive
     coming-bad n h = rw h
 
-    pending-refused : {a : Answer State Bool} (p : Pending profile b bs a) (r : Refusal) → coming b bs ≡ refused r → a ≡ refused r
+    pending-refused : {a : Answer State Bool} (p : Pending profile b bs a) (r : Cause) → coming b bs ≡ refused r → a ≡ refused r
     unfolding closing thence after
     pending-refused p r h = p .form ∙ ap (λ (k : Answer State (Unit {0})). closing (p .w) (p .z) (p .a) (thence k (λ _. content profile (times profile (p .n)) (p .x)))) h
 
@@ -339,7 +339,7 @@ module _ (profile : Profile) where
     unfolding thence
     statement-done w0 t h i = statement-is (enter b bs) ∙ ap (λ (k : Answer State (Unit {0})). thence k (λ _. begun profile)) h ∙ ap (after w0) (begun-at t i)
 
-    statement-refused : (r : Refusal) → skipLines (enter b bs) ≡ refused r → statement profile (enter b bs) ≡ refused r
+    statement-refused : (r : Cause) → skipLines (enter b bs) ≡ refused r → statement profile (enter b bs) ≡ refused r
     unfolding thence
     statement-refused r h = statement-is (enter b bs) ∙ ap (λ (k : Answer State (Unit {0})). thence k (λ _. begun profile)) h
 
@@ -396,8 +396,8 @@ module _ (profile : Profile) where
   -- What B's reading, from place n on, has to do with that of A ++ B, where A's gives the first answer and that of A ++ B the second.
   pub data Then (n : ℕ) (B : List ℕ) : Answer State (Unit {0}) → Answer State (Unit {0}) → Type 0 where
     goes : {w : List Record} {u : State} {q : Answer State (Unit {0})} → Gives n B q → Then n B (done w tt u) (after w q)
-    stands : {r : Refusal} → Mild r → Then n B (refused r) (refused r)
-    lacks : {r : Refusal} {q : Answer State (Unit {0})} → Lack r → (blankRows (rowsFrom n B) ≡ false → (q′ : Answer State (Unit {0})) → Gives n B q′ → IsOpen q → IsOpen q′) → Then n B (refused r) q
+    stands : {r : Cause} → Mild r → Then n B (refused r) (refused r)
+    lacks : {r : Cause} {q : Answer State (Unit {0})} → Lack r → (blankRows (rowsFrom n B) ≡ false → (q′ : Answer State (Unit {0})) → Gives n B q′ → IsOpen q → IsOpen q′) → Then n B (refused r) q
 
   to-then : (n m : ℕ) (B : List ℕ) (b : Row) (bs : List Row) → rowsFrom n B ≡ b ∷ bs → {a q : Answer State (Unit {0})}
       → Follows profile (endRow m ∷ []) (empty (endRow m) (end-end m)) b bs a q → Then n B a q
@@ -459,18 +459,18 @@ module _ (profile : Profile) where
       moved-open z q′ (bare-open (follows profile [] bare (endRow 0) [] (zeros rs) (rw j at (begins-shift z g′)) (rw k at (begins-shift z g))) (open-moved z q h))
 
   -- What is refused is 34 only where a content is missing.
-  bare-refused : {r : Refusal} {a q : Answer State (Unit {0})} → Follows profile [] bare (endRow 0) [] a q → a ≡ refused r → Mild r ⊎ Lack r
+  bare-refused : {r : Cause} {a q : Answer State (Unit {0})} → Follows profile [] bare (endRow 0) [] a q → a ≡ refused r → Mild r ⊎ Lack r
   bare-refused (Follows.on g) e = absurd (true≢false cc)
   bare-refused {r} (Follows.same {r = r′} m) e = let y : r′ ≡ r = cc in inl (rw y at m)
   bare-refused {r} (Follows.late {f} {t} w p c) e = let y : at 34 f t ≡ r = cc in rw (← y) (inr refl)
 
-  mild-moved : (f : ℕ → ℕ) (r : Refusal) → Mild (moveRefusal f r) ⊎ Lack (moveRefusal f r) → Mild r ⊎ Lack r
+  mild-moved : (f : ℕ → ℕ) (r : Cause) → Mild (moveRefusal f r) ⊎ Lack (moveRefusal f r) → Mild r ⊎ Lack r
   unfolding moveRefusal
   mild-moved f (at n p q) h = h
   mild-moved f (nowhere n) h = h
   mild-moved f (encoding p q a b) h = h
 
-  pub mild-or-lacks : (p : ℕ) (s : List ℕ) (r : Refusal) → Gives p s (refused r) → Mild r ⊎ Lack r
+  pub mild-or-lacks : (p : ℕ) (s : List ℕ) (r : Cause) → Gives p s (refused r) → Mild r ⊎ Lack r
   unfolding moved carry
   mild-or-lacks p s r g =
       let (k, rs, e) = some-row p s in
@@ -500,6 +500,6 @@ module _ (profile : Profile) where
       let (u, i) = run-accepted (readRows profile (suc (length s)) (rows (tokensFrom p 0 s))) w e in
       (u, rw i at (gives p s))
 
-  pub refuses-run : (p : ℕ) (s : List ℕ) (r : Refusal) → readFrom profile p s ≡ refusal r → Gives p s (refused r)
+  pub refuses-run : (p : ℕ) (s : List ℕ) (r : Cause) → readFrom profile p s ≡ refusal r → Gives p s (refused r)
   unfolding readFrom rowsFrom
   refuses-run p s r e = rw (run-refused (readRows profile (suc (length s)) (rows (tokensFrom p 0 s))) r e) at (gives p s)

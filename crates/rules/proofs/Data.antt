@@ -16,7 +16,7 @@ use Rattle.lexer.proofs.Branches.{either}
 use Rattle.rules.specs.Lexemes.{Kind, word, number, quoted, mark, newline, blank, comment, invalid, end, bad, Lexeme, tokensFrom, tokens, nameIn, operationIn}
 use Rattle.names.specs.Names.{directives}
 use Rattle.rules.specs.Records.{Record, ST, LD, LT, field}
-use Rattle.rules.specs.Reader.{Refusal, at, nowhere, encoding, valuesOf, Answer, done, refused, Reader, Line, after, thence, _>>=_, _>>_, return, write, refuse, refusedAs, arrive, step, next, ahead, kind, passed, left, refuseHere, isLineEnd}
+use Rattle.rules.specs.Reader.{Cause, at, nowhere, encoding, numbersOf, Answer, done, refused, Reader, Line, after, thence, _>>=_, _>>_, return, write, refuse, refusedAs, arrive, step, next, ahead, kind, passed, left, refuseHere, isLineEnd}
 use Rattle.rules.specs.Expressions.{expression}
 use Rattle.rules.specs.Operands.{isWord}
 use Rattle.rules.specs.Statements.{Profile, fitting, cutting, Row, State, largest, fits, over, inLine, firstOf, enter, stepRow, nextRow, lineEnd, skip, skipLines, passing, rep, repne, instruction, constant, literalOf, literals, someData, dataOf, line, content, times, begun, statement, statements, accepted, outcome, rows, readRows, readFrom, reading}
@@ -26,8 +26,7 @@ use Rattle.rules.specs.WellFormed.{wellFormed}
 use Rattle.rules.specs.Patch.{beginsLine, above, lineAt, behind, edited, linesFrom, nearest, leavesOpen, openLine, Edit, reread, patched, patch}
 use Rattle.rules.specs.Grammar.{endOf, leftOf}
 use Rattle.rules.specs.Claims.{Each}
-use Rattle.rules.specs.Data.{worth, BytesOf, Says, ends, comma, string, count, Opens, OpensIn, OpensData, DataLine, TooWide}
-use Rattle.rules.specs.Data.{DataKept, Alike, apart, OnlyTooWide}
+use Rattle.rules.specs.Data.{worth, BytesOf, Says, ends, comma, string, count, Opens, OpensIn, OpensData, DataLine, TooWide, DataKept, Alike, apart, OnlyTooWide}
 use Rattle.rules.proofs.TokenKinds.{name-inside}
 use Rattle.rules.proofs.Move.{Mild, NotData, Any, bad-mild, Stays, after-stays, thence-stays, Wrote, each-append, thence-wrote, arrived, same, Shifts, next-mild, next-shifts, kind-shifts, passed-shifts, here-shifts, expression-shifts, operands-shifts}
 use Rattle.rules.proofs.MoveState.{inLines, skipLines-shifts, label-shifts, literals-mild}
@@ -80,7 +79,7 @@ any width v = true
 data Literals (width : ℕ) (z : Lexeme) (l : Line) : Answer Line (List ℕ) → Answer Line (List ℕ) → Type 0 where
   both : (xs : List Lexeme) {ds : List ℕ} {t : Line} → leftOf l ≡ xs ++ leftOf t → Says width xs ds → t .last ≡ endOf (z ∷ xs)
       → Ended (t .here) (t .more) → Literals width z l (done [] ds t) (done [] ds t)
-  neither : {r : Refusal} → Literals width z l (refused r) (refused r)
+  neither : {r : Cause} → Literals width z l (refused r) (refused r)
   wide : (xs : List Lexeme) {ds : List ℕ} (y : Lexeme) (ys : List Lexeme) {v : ℕ} {q : Answer Line (List ℕ)} → leftOf l ≡ xs ++ (y ∷ ys)
       → Says width xs ds → y .kind ≡ number v → largest width < v → Literals width z l (refused (at 60 (y .from) (y .to))) q
 
@@ -102,7 +101,7 @@ module _ (width : ℕ) (z : Lexeme) (l : Line) where
     after-bytes bs k (wide xs {ds} y ys s d n w) = wide (l .here ∷ xs) y ys (ap (λ (r : List Lexeme). l .here ∷ r) (sym e ∙ s)) (k xs ds d) n w
 
   -- What two readers behind `next` say, where the token ahead ends no line.
-  onward : (T : Answer Line (List ℕ) → Answer Line (List ℕ) → Type 0) (R R′ : Reader Line (List ℕ)) → ((r : Refusal) → T (refused r) (refused r))
+  onward : (T : Answer Line (List ℕ) → Answer Line (List ℕ) → Type 0) (R R′ : Reader Line (List ℕ)) → ((r : Cause) → T (refused r) (refused r))
       → isLineEnd (l .here .kind) ≡ false → Ended (l .here) (l .more)
       → ((t : Line) → leftOf t ≡ l .more → t .last ≡ l .here .to → Ended (t .here) (t .more) → T (R t) (R′ t)) → T ((next >> R) l) ((next >> R′) l)
   unfolding next step thence _>>_ _>>=_
@@ -217,7 +216,7 @@ module _ (C : Type 0) where
 module _ (F : Profile) (X : List Lexeme) (C : Type 0) where
   data Parted {A : Type 0} : Answer State A → Answer State A → Type 0 where
     alike : {w : List Record} {a : A} {s : State} → Each (Backed F X) w → On C s → Parted (done w a s) (done w a s)
-    stop : {r : Refusal} → Parted (refused r) (refused r)
+    stop : {r : Cause} → Parted (refused r) (refused r)
     wide : {f t : ℕ} {q : Answer State A} → TooWide F X f t → (C → Stays Ending Mild q) → Parted (refused (at 60 f t)) q
 
   -- At one state.
@@ -309,7 +308,7 @@ module _ {C : Type 0} where
   unfolding write
   writes r i = record { keeps = λ s h. h; wrote = λ s. (i, tt) }
 
-  denies : {A : Type 0} (r : Refusal) → Shared C {A = A} (refuse r)
+  denies : {A : Type 0} (r : Cause) → Shared C {A = A} (refuse r)
   unfolding refuse
   denies r = record { keeps = λ s h. tt; wrote = λ s. tt }
 
@@ -660,7 +659,7 @@ module _ (p : ℕ) (s : List ℕ) where
 
 -- The calls, around the readings.
 module _ {F : Profile} {X : List Lexeme} where
-  unless-alike : {A : Type 0} (b : Bool) (r : Refusal) {x y : Result A} → Alike F X x y → Alike F X (unless b r x) (unless b r y)
+  unless-alike : {A : Type 0} (b : Bool) (r : Cause) {x y : Result A} → Alike F X x y → Alike F X (unless b r x) (unless b r y)
   unfolding unless
   unless-alike true r h = Alike.same
   unless-alike false r h = h
@@ -733,7 +732,7 @@ data-kept table = record {
 }
 
 -- A line alone: both readings leave a `times` open, or neither does.
-mild-closed : (r : Refusal) → Mild r → eqb (valuesOf r .number) 34 ≡ false
+mild-closed : (r : Cause) → Mild r → eqb (numbersOf r .number) 34 ≡ false
 mild-closed (at n f t) h = or-split (eqb n 34) (eqb n 0) h .0
 mild-closed (nowhere n) h = or-split (eqb n 34) (eqb n 0) h .0
 mild-closed (encoding f t a b) h = refl

@@ -3,7 +3,7 @@ use mathlib.Core.Path.{_≡_, refl, sym, ap, _∙_}
 use mathlib.Core.Bool.{Bool, true, false, not, _||_, true≢false}
 use mathlib.Core.List.{List, [], _∷_, _++_, append-assoc, append-nil}
 use mathlib.Core.Option.{Option, none, some}
-use Prim.Native.Nat.{ℕ, zero, suc, _+_, _-_, _≤_, zero-le}
+use Prim.Native.Nat.{ℕ, zero, suc, _+_, _≤_, zero-le}
 use native.Mathlib.Omega.{arith}
 use lib.Dec.{eqb, leb, ltb}
 use lib.ListN.{length, take, drop, getD, length-append, take-append-drop}
@@ -12,7 +12,7 @@ use borrow.Author.Tests.{ne-eqb, le-ltb, ltb-false, eqb-true, leb-true}
 use Rattle.lexer.specs.Text.{if_then_else_, maybe, is, among, run}
 use Rattle.lexer.specs.Tokens.{inComment}
 use Rattle.rules.specs.Records.{Record, listing}
-use Rattle.rules.specs.Reader.{Refusal, at, nowhere, done}
+use Rattle.rules.specs.Reader.{Cause, at, nowhere, done}
 use Rattle.rules.specs.Statements.{Profile, State, Outcome, accepted, refusal, outcome, readFrom, reading}
 use Rattle.lexer.proofs.Branches.{and-split}
 use Rattle.lexer.proofs.TokensLine.{Lines}
@@ -137,7 +137,7 @@ unfoldable pub exchangedBy : ℕ → ℕ → ℕ → List Record → Outcome →
 exchangedBy a p q w (accepted v) = accepted (exchanged a p q w v)
 exchangedBy a p q w (refusal r) = refusal r
 
-edits-unless : (s : List ℕ) (b : Bool) (r : Refusal) (x : Result (List Record)) → edits s (unless b r x) ≡ unless b r (edits s x)
+edits-unless : (s : List ℕ) (b : Bool) (r : Cause) (x : Result (List Record)) → edits s (unless b r x) ≡ unless b r (edits s x)
 unfolding unless edits
 edits-unless s true r x = refl
 edits-unless s false r x = refl

@@ -18,7 +18,7 @@ use Rattle.lexer.proofs.Dots.{name-with, dotted-names}
 use Rattle.lexer.proofs.Runs.{one-of}
 use Rattle.rules.specs.Lexemes.{kindOf, Lexeme, isGap, lexeme, put, tokensBy, openLexemes}
 use Rattle.rules.specs.Records.{Record}
-use Rattle.rules.specs.Reader.{Refusal, at, nowhere, Answer, isMark, isLineEnd}
+use Rattle.rules.specs.Reader.{Cause, at, nowhere, Answer, isMark, isLineEnd}
 use Rattle.rules.specs.Statements.{Profile, Row, State, push, rows, outcome, readRows}
 use Rattle.rules.specs.Calls.{Result, gives, refuses, unless, tooLong, foreign, ascii, lent, listed, fullRead}
 use Rattle.rules.specs.ByRule.{fullBy, somewhere}
@@ -42,7 +42,7 @@ dot-token : (p c : ℕ) (cs : List ℕ) (xs : List Lexeme) → is "." c ≡ true
 unfolding openLexemes isMark is
 dot-token p c cs xs h = rw (eqb-true c (code ".") h) (head refl)
 
--- By document 01's names, however a number without a prefix is read.
+-- By the base rules' names (RULES 14.1), however a number without a prefix is read.
 module _ (unprefixed : ℕ → List ℕ → TokenRead) where
   abbrev plain : List ℕ → TokenRead
   plain s = tokenWith isPlainPart unprefixed s
@@ -106,25 +106,25 @@ module _ (profile : Profile) where
   same-without-dots = same-without plainToken dotFollows (dotted-names .others) profile
 
   -- What the reading refuses the call refuses.
-  lent-denied : (source : List ℕ) (room : ℕ) (a : Answer State (Unit {0})) → Denied profile a → (r : Refusal) × (lent source (listed room (outcome a)) ≡ refuses r)
+  lent-denied : (source : List ℕ) (room : ℕ) (a : Answer State (Unit {0})) → Denied profile a → (r : Cause) × (lent source (listed room (outcome a)) ≡ refuses r)
   unfolding lent unless ascii listed outcome
   lent-denied source room a (r, e) = rw e (go (tooLong source) (foreign 0 source))
     where
       go : (b : Bool) (o : Option ℕ)
-          → (c : Refusal) × (_≡_ {A = Result (List Record)} (if b then (refuses (nowhere 1)) else (maybe o (refuses r) (λ p. refuses (at 2 p (suc p))))) (refuses c))
+          → (c : Cause) × (_≡_ {A = Result (List Record)} (if b then (refuses (nowhere 1)) else (maybe o (refuses r) (λ p. refuses (at 2 p (suc p))))) (refuses c))
       go true o = (nowhere 1, refl)
       go false none = (r, refl)
       go false (some p) = (at 2 p (suc p), refl)
 
   -- A dot among the tokens is refused, whatever their rule.
-  pub has-dot-refused : (rule : List ℕ → TokenRead) (source : List ℕ) (room : ℕ) → HasDot (tokensBy rule 0 0 source) → (r : Refusal) × (fullBy rule profile source room ≡ refuses r)
+  pub has-dot-refused : (rule : List ℕ → TokenRead) (source : List ℕ) (room : ℕ) → HasDot (tokensBy rule 0 0 source) → (r : Cause) × (fullBy rule profile source room ≡ refuses r)
   unfolding fullBy
   has-dot-refused rule source room h =
       let xs : List Lexeme = tokensBy rule 0 0 source in
       lent-denied source room (readRows profile (suc (length source)) (rows xs))
       (begins-denied profile (begins-with profile xs (length source) (tokens-finished rule 0 0 source) (tokens-count rule 0 0 source)) (rows-dotted h))
 
-  dot-refused : (source : List ℕ) (room : ℕ) → dotBehindName 0 source ≡ true → (r : Refusal) × (fullBy plainToken profile source room ≡ refuses r)
+  dot-refused : (source : List ℕ) (room : ℕ) → dotBehindName 0 source ≡ true → (r : Cause) × (fullBy plainToken profile source room ≡ refuses r)
   unfolding plainToken
   dot-refused source room h = has-dot-refused plainToken source room (tokens-dotted suffixed 0 0 source h)
 

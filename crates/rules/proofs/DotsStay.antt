@@ -14,13 +14,13 @@ use Rattle.lexer.specs.Text.{if_then_else_, is}
 use Rattle.rules.specs.Lexemes.{Kind, word, number, quoted, mark, newline, blank, comment, invalid, end, bad, Lexeme, textOf, nameIn, operationIn}
 use Rattle.names.specs.Names.{registers, segments, sizes, directives}
 use Rattle.rules.specs.Records.{Record, ST, LT, field}
-use Rattle.rules.specs.Reader.{Refusal, at, Answer, done, refused, Reader, Line, after, thence, _>>=_, _>>_, write, arrive, step, next, ahead, kind, passed, isMark, isLineEnd, expect}
+use Rattle.rules.specs.Reader.{Cause, at, Answer, done, refused, Reader, Line, after, thence, _>>=_, write, arrive, step, next, ahead, kind, passed, isMark, isLineEnd, expect}
 use Rattle.rules.specs.Expressions.{operatorOf, leftLevel, rightLevel, prefixLevel, character, atomOf, atom, primary, infixes, expr, expression}
 use Rattle.rules.specs.Operands.{immediateOrFar, alone, isIndex, isBase, paired, plusIndex, second, registersAhead, displacement, close, override, isWord, isNumber, memory, operandSized, operand, operands}
 use Rattle.rules.specs.Statements.{Profile, Row, State, over, inLine, firstOf, enter, stepRow, nextRow, lineEnd, skip, skipLines, passing, label, rep, repne, instruction, constant, literalOf, literals, someData, dataOf, line, content, times, begun, statement}
 use Rattle.rules.proofs.TokenKinds.{mark-inside}
 use Rattle.rules.proofs.Append.{Reads, Begins, fine, broken}
-use Rattle.rules.proofs.Hoare.{nil, Post, holds, fails, Triple, now, after-post, bind, andThen, whether, perhaps, returns, refuses, writes, before, behind, arrive-post, attempts, askAhead, askKind, askPassed, askLeft, here-fails, inLines, askAheadS, askKindS, askPassedS, askLeftS, here-failsS}
+use Rattle.rules.proofs.Hoare.{nil, Post, holds, Triple, now, after-post, bind, andThen, whether, perhaps, returns, refuses, writes, before, arrive-post, attempts, askAhead, askKind, askPassed, askLeft, here-fails, inLines, askAheadS, askKindS, askPassedS, askLeftS, here-failsS}
 
 -- What passes a test that a dot fails is no dot.
 apart : (T : Kind → Type 0) → (T (mark (code ".")) → ⊥) → (k : Kind) → T k → isMark "." k ≡ false
@@ -363,7 +363,7 @@ module _ (profile : Profile) where
 
   -- So no reading of a dot comes to its end.
   abbrev pub Denied : Answer State (Unit {0}) → Type 0
-  Denied p = (r : Refusal) × (p ≡ refused r)
+  Denied p = (r : Cause) × (p ≡ refused r)
 
   more-after : {w : List Record} {b : Bool} {t : State} → Post Free More tt (done w b t) → (b ≡ true) × OnS tt t
   more-after (holds {g′ = tt} r q) = q

@@ -8,8 +8,8 @@ use native.Mathlib.Omega.{arith}
 use lib.ListN.{length, take, drop, length-append}
 use Rattle.lexer.specs.Text.{if_then_else_}
 use Rattle.rules.specs.Lexemes.{Lexeme, tokensFrom}
-use Rattle.rules.specs.Records.{Record, ST, VC, VL, VI, VS, PF, IN, OR, OS, OI, OF, OD, OX, LL, LI, LD, LC, LT, moveRecord}
-use Rattle.rules.specs.Reader.{Refusal, at, Answer, done, refused, after, isLineEnd}
+use Rattle.rules.specs.Records.{Record, plain, laden, Cell, aPlace, aNumber, aSigned, cellsOf, moveCells, moveRecord}
+use Rattle.rules.specs.Reader.{Cause, at, Answer, done, refused, after, isLineEnd}
 use Rattle.rules.specs.Statements.{Profile, Row, State, enter, rows, push, readRows}
 use Rattle.rules.proofs.Move.{carry, moveRefusal}
 use Rattle.rules.proofs.MoveState.{moveState}
@@ -68,7 +68,7 @@ module _ (profile : Profile) where
   open-zero : (p : ℕ) (s : List ℕ) → ((b : Answer State (Unit {0})) → Gives profile p s b → IsOpen b) → (b : Answer State (Unit {0})) → Gives profile 0 s b → IsOpen b
   open-zero p s h b g = moved-open (λ n. p + n) b (h (moved (λ n. p + n) b) (gives-shift profile p s g))
 
-  not-bare : (p : ℕ) (l : List ℕ) {r : Refusal} → Gives profile p (l ++ lineFeed) (refused r) → bareLine l ≡ false
+  not-bare : (p : ℕ) (l : List ℕ) {r : Cause} → Gives profile p (l ++ lineFeed) (refused r) → bareLine l ≡ false
   not-bare p l {r} g = go (bareLine l) refl
     where
       go : (b : Bool) → bareLine l ≡ b → b ≡ false
@@ -133,7 +133,7 @@ module _ (profile : Profile) where
       go (stands m) e = absurd (true≢false cc)
       go (lacks m i) e = absurd (true≢false cc)
 
-  pub refused-whole : (n : ℕ) (A B : List ℕ) {r : Refusal} {q : Answer State (Unit {0})} → Lines A → Gives profile n A (refused r) → (Lack r → ⊥) → Gives profile n (A ++ B) q → q ≡ refused r
+  pub refused-whole : (n : ℕ) (A B : List ℕ) {r : Cause} {q : Answer State (Unit {0})} → Lines A → Gives profile n A (refused r) → (Lack r → ⊥) → Gives profile n (A ++ B) q → q ≡ refused r
   refused-whole n A B {r} {q} l g o k = go (sequel profile n A B l g k) refl
     where
       go : {x y : Answer State (Unit {0})} → Then profile (n + length A) B x y → x ≡ refused r → y ≡ refused r
@@ -142,26 +142,18 @@ module _ (profile : Profile) where
       go (lacks {r = r′} m i) e = let z : r′ ≡ r = cc in absurd (o (rw z at m))
 
   -- Records moved twice.
+  cells-moved : (f g : ℕ → ℕ) (cs : List Cell) (ns : List ℕ) → moveCells f cs (moveCells g cs ns) ≡ moveCells (λ k. f (g k)) cs ns
+  unfolding moveCells
+  cells-moved f g [] ns = refl
+  cells-moved f g (c ∷ cs) [] = refl
+  cells-moved f g (aPlace ∷ cs) (n ∷ ns) = ap (λ (vs : List ℕ). f (g n) ∷ vs) (cells-moved f g cs ns)
+  cells-moved f g (aNumber ∷ cs) (n ∷ ns) = ap (λ (vs : List ℕ). n ∷ vs) (cells-moved f g cs ns)
+  cells-moved f g (aSigned ∷ cs) (n ∷ ns) = ap (λ (vs : List ℕ). n ∷ vs) (cells-moved f g cs ns)
+
   move-move : (f g : ℕ → ℕ) (r : Record) → moveRecord f (moveRecord g r) ≡ moveRecord (λ k. f (g k)) r
   unfolding moveRecord
-  move-move f g (ST p) = refl
-  move-move f g (VC p q v) = refl
-  move-move f g (VL p q) = refl
-  move-move f g (VI p q) = refl
-  move-move f g (VS p q) = refl
-  move-move f g (PF p q o) = refl
-  move-move f g (IN p q o) = refl
-  move-move f g (OR p q r) = refl
-  move-move f g (OS p q s) = refl
-  move-move f g (OI p q) = refl
-  move-move f g (OF p q) = refl
-  move-move f g (OD p q z s) = refl
-  move-move f g (OX p q e d z s) = refl
-  move-move f g (LL p q) = refl
-  move-move f g (LI p q o n p′ q′) = refl
-  move-move f g (LD p q d) = refl
-  move-move f g (LC p q) = refl
-  move-move f g LT = refl
+  move-move f g (plain m ns) = ap (plain m) (cells-moved f g (cellsOf m) ns)
+  move-move f g (laden m ns d) = ap (λ (vs : List ℕ). laden m vs d) (cells-moved f g (cellsOf m) ns)
 
   moves : (f g h : ℕ → ℕ) → ((k : ℕ) → f (g k) ≡ h k) → (w : List Record) → map (moveRecord f) (map (moveRecord g) w) ≡ map (moveRecord h) w
   moves f g h e [] = refl
@@ -200,7 +192,7 @@ module _ (profile : Profile) where
     pub rests : Gives profile (p + length A + length (L ++ take 1 B)) (drop 1 B) (done rest tt u₂)
     pub accepts : (wN : List Record) (u : State) (q : Answer State (Unit {0})) → Gives profile (p + length A) (N ++ take 1 B) (done wN tt u) → Gives profile p (A ++ (N ++ B)) q
         → (u′ : State) × (q ≡ done (kept ++ (wN ++ map (moveRecord (λ k. k + length N - length L)) rest)) tt u′)
-    pub refuses : (r : Refusal) (q : Answer State (Unit {0})) → Gives profile (p + length A) (N ++ take 1 B) (refused r) → Gives profile p (A ++ (N ++ B)) q → q ≡ refused r
+    pub refuses : (r : Cause) (q : Answer State (Unit {0})) → Gives profile (p + length A) (N ++ take 1 B) (refused r) → Gives profile p (A ++ (N ++ B)) q → q ≡ refused r
 
   unfoldable pub Closed : ℕ → List ℕ → Type 0
   Closed p s = (a : Answer State (Unit {0})) → Gives profile p s a → IsOpen a → ⊥

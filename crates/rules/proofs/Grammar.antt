@@ -9,13 +9,13 @@ use Prim.Native.String.{String}
 use native.Mathlib.Omega.{arith}
 use native.Mathlib.Nat.{le-refl, le-trans, not-suc-le-zero, add-suc, add-zero, add-comm}
 use lib.Dec.{ltb, eqb}
-use lib.ListN.{length, length-append}
+use lib.ListN.{length, getD, length-append}
 use borrow.Author.Tests.{lt-ltb, le-ltb, eqb-true, ltb-true, ltb-false}
-use Rattle.lexer.specs.Text.{if_then_else_, maybe, is, bytes, openText}
+use Rattle.lexer.specs.Text.{if_then_else_, maybe, is, bytes, same, openText}
 use Rattle.lexer.specs.Tokens.{tokenAt}
 use Rattle.rules.specs.Lexemes.{Kind, word, number, quoted, mark, newline, blank, comment, invalid, end, bad, Lexeme, tokensFrom, tokens, openLexemes}
-use Rattle.rules.specs.Records.{Record, ST, VC, VL, VI, VS, PF, IN, OR, OS, OI, OF, OD, OX, LL, LI, LD, LC, LT}
-use Rattle.rules.specs.Reader.{Refusal, at, nowhere, Answer, done, refused, Reader, Line, after, thence, _>>=_, _>>_, return, write, refuse, refusedAs, arrive, step, next, ahead, kind, passed, left, refuseHere, isMark, isLineEnd, expect}
+use Rattle.rules.specs.Records.{Record, markOf, fieldsOf, VC, VL, VI, VS, PF, IN}
+use Rattle.rules.specs.Reader.{Cause, at, nowhere, Answer, done, refused, Reader, Line, after, thence, _>>=_, _>>_, return, write, refuse, refusedAs, arrive, step, next, ahead, kind, passed, left, refuseHere, isMark, isLineEnd, expect}
 use Rattle.rules.specs.Expressions.{operatorOf, leftLevel, rightLevel, prefixLevel, character, atomOf, atom as atomReader, primary, infixes, expr, expression}
 use Rattle.rules.specs.Statements.{Row}
 use Rattle.rules.specs.Grammar.{Tree, constant, name, dollar, dollars, signed, joined, recordsOf, startOf, endOf, Mark, PlusMinus, plus, minus, TimesOver, times, over, Atom, aNumber, aCharacter, aName, aDollar, twoDollars, Level, sum, product, operand, Derives, atom, parentheses, prefix, multiplied, added, oneOperand, oneProduct, loneDollar, Ends, leftOf, Begins, LineOf, OneReading}
@@ -352,7 +352,7 @@ began-gram q p = record { tree = q .tree; listed = q .listed; derived = λ l _. 
 -- an answer that, if it is no refusal, has Q
 data Post {A : Type 0} (Q : List Record → A → Line → Type 0) : Answer Line A → Type 0 where
   holds : {w : List Record} {a : A} {s : Line} → Q w a s → Post Q (done w a s)
-  fails : {r : Refusal} → Post Q (refused r)
+  fails : {r : Cause} → Post Q (refused r)
 
 after-post : {A : Type 0} {Q : List Record → A → Line → Type 0} (w : List Record) {p : Answer Line A} → Post (λ v a s. Q (w ++ v) a s) p → Post Q (after w p)
 unfolding after
@@ -704,28 +704,29 @@ expr-sound (suc d) p l x ys e = strip (thence-post (primary-sound d l x ys (expr
     }) (loop-sound (length (s .more)) d p (expr-sound d) x (q .xs) w s (le-refl (length (s .more))) (ended-suffix x (q .xs) (s .here) (s .more) (rw (q .split) at e)) (q .lasts) (q .follows) (began-gram q p) (λ op u. began-gram q (leftLevel op))))))
 
 -- ONE TREE. A listing is its tree in reverse Polish: with a stack of trees it gives the tree back.
+oneOn : (f t op : ℕ) → List Tree → List Tree
+oneOn f t op [] = []
+oneOn f t op (a ∷ l) = signed f t op a ∷ l
+
+twoOn : (f t op : ℕ) → List Tree → List Tree
+twoOn f t op [] = []
+twoOn f t op (b ∷ []) = []
+twoOn f t op (b ∷ a ∷ l) = joined f t op a b ∷ l
+
 onto : Record → List Tree → List Tree
-onto (VC f t v) l = constant f t v ∷ l
-onto (VL f t) l = name f t ∷ l
-onto (VI f t) l = dollar f t ∷ l
-onto (VS f t) l = dollars f t ∷ l
-onto (PF f t op) [] = []
-onto (PF f t op) (a ∷ l) = signed f t op a ∷ l
-onto (IN f t op) [] = []
-onto (IN f t op) (b ∷ []) = []
-onto (IN f t op) (b ∷ a ∷ l) = joined f t op a b ∷ l
-onto (ST p) l = l
-onto (OR f t r) l = l
-onto (OS f t s) l = l
-onto (OI f t) l = l
-onto (OF f t) l = l
-onto (OD f t z s) l = l
-onto (OX f t e d z s) l = l
-onto (LL f t) l = l
-onto (LI f t o n f′ t′) l = l
-onto (LD f t d) l = l
-onto (LC f t) l = l
-onto LT l = l
+unfolding same bytes oneOn twoOn
+onto r l =
+    let m : List ℕ = markOf r in
+    let f : ℕ = getD (fieldsOf r) 0 0 in
+    let t : ℕ = getD (fieldsOf r) 1 0 in
+    let v : ℕ = getD (fieldsOf r) 2 0 in
+    if same m (bytes "VC") then (constant f t v ∷ l)
+    else if same m (bytes "VL") then (name f t ∷ l)
+    else if same m (bytes "VI") then (dollar f t ∷ l)
+    else if same m (bytes "VS") then (dollars f t ∷ l)
+    else if same m (bytes "PF") then (oneOn f t v l)
+    else if same m (bytes "IN") then (twoOn f t v l)
+    else l
 
 stack : List Record → List Tree → List Tree
 stack [] l = l

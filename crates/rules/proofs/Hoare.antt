@@ -10,7 +10,7 @@ use lib.ListN.{length}
 use Rattle.lexer.specs.Text.{if_then_else_, maybe}
 use Rattle.rules.specs.Lexemes.{Kind, Lexeme}
 use Rattle.rules.specs.Records.{Record}
-use Rattle.rules.specs.Reader.{Refusal, Answer, done, refused, Reader, Line, after, thence, _>>=_, _>>_, return, write, refuse, orBack, attempt, arrive, ahead, kind, passed, left, refuseHere}
+use Rattle.rules.specs.Reader.{Cause, Answer, done, refused, Reader, Line, after, thence, _>>=_, _>>_, return, write, refuse, orBack, attempt, arrive, ahead, kind, passed, left, refuseHere}
 use Rattle.rules.specs.Statements.{Row, State, over, inLine}
 use Rattle.rules.proofs.Move.{arrived}
 
@@ -21,7 +21,7 @@ pub data Run {G : Type 0} (Step : G → Record → G → Type 0) : G → List Re
 
 pub data Post {G : Type 0} (Step : G → Record → G → Type 0) {S A : Type 0} (Q : A → G → S → Type 0) (g : G) : Answer S A → Type 0 where
   holds : {w : List Record} {a : A} {s : S} {g′ : G} → Run Step g w g′ → Q a g′ s → Post Step Q g (done w a s)
-  fails : {r : Refusal} → Post Step Q g (refused r)
+  fails : {r : Cause} → Post Step Q g (refused r)
 
 pub record Triple {G : Type 0} (Step : G → Record → G → Type 0) {S A : Type 0} (P : G → S → Type 0) (m : Reader S A) (Q : A → G → S → Type 0) : Type 0 where
   pub law : (g : G) (s : S) → P g s → Post Step Q g (m s)
@@ -70,7 +70,7 @@ module _ {G : Type 0} {Step : G → Record → G → Type 0} where
     unfolding return
     returns a h = record { law = λ g s p. holds nil (h g s p) }
 
-    pub refuses : {A : Type 0} {P : G → S → Type 0} {Q : A → G → S → Type 0} (r : Refusal) → Triple Step P (refuse r) Q
+    pub refuses : {A : Type 0} {P : G → S → Type 0} {Q : A → G → S → Type 0} (r : Cause) → Triple Step P (refuse r) Q
     unfolding refuse
     refuses r = record { law = λ g s p. fails }
 

@@ -1,4 +1,4 @@
--- Samples of the patch and of the statement read, computed: what document 01 says of each refusal's order, and small edits.
+-- Samples of the patch and of the statement read, computed: what RULES 11.2 says of the refusals' order (RULES 9.3, 10.7), and small edits.
 use mathlib.Core.Path.{_≡_, refl}
 use mathlib.Core.Bool.{true, false}
 use mathlib.Core.List.{List, [], _∷_, _++_}

@@ -1,4 +1,4 @@
--- The letter behind the digits: where no such run stands, the calls answer as by document 01's order.
+-- The letter behind the digits: where no such run stands, the calls answer as by the base rules' order (RULES 14.2).
 use Rattle.lexer.specs.Letters.{letterFollows, lastFirstToken}
 use Rattle.lexer.proofs.Letters.{letter-first}
 use Rattle.rules.specs.Statements.{Profile}

@@ -1,5 +1,6 @@
 pub mod Table
 pub mod Records
+pub mod Forms
 pub mod TokenKinds
 pub mod Move
 pub mod MoveState

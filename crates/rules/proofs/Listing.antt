@@ -2,20 +2,21 @@
 use mathlib.Core.Path.{_≡_, refl, sym, _∙_}
 use mathlib.Core.Bool.{Bool, true, false, true≢false}
 use mathlib.Core.List.{List, [], _∷_, _++_}
-use mathlib.Core.Option.{some}
+use mathlib.Core.Option.{Option, none, some}
 use Prim.Native.Nat.{ℕ, _+_, _≤_, _<_, zero-le}
 use native.Mathlib.Omega.{arith}
 use native.Mathlib.Nat.{le-refl, le-trans}
 use lib.Dec.{leb}
-use lib.ListN.{length}
+use lib.ListN.{length, getD}
 use borrow.Author.Tests.{le-leb, lt-leb, leb-true}
+use Rattle.lexer.specs.Text.{maybe}
 use Rattle.rules.specs.Lexemes.{tokensFrom}
-use Rattle.rules.specs.Records.{Record, ST, VC, VL, VI, VS, PF, IN, OR, OS, OI, OF, OD, OX, LL, LI, LD, LC, LT, listing}
-use Rattle.rules.specs.Reader.{Refusal, Answer, done, refused, after}
+use Rattle.rules.specs.Records.{Role, aStatement, aTimes, anExpression, anOperand, aLine, Form, formOf, Record, ST, markOf, fieldsOf, listing}
+use Rattle.rules.specs.Reader.{Cause, Answer, done, refused, after}
 use Rattle.rules.specs.Statements.{Profile, Row, State, firstOf, enter, accepted, reading}
 use Rattle.rules.specs.Decode.{decode}
 use Rattle.rules.specs.WellFormed.{Stack, complete, checked, checkedAll, fresh, wellFormed}
-use Rattle.rules.specs.Patch.{statementFrom}
+use Rattle.rules.specs.Patch.{beginsFrom, statementFrom}
 use Rattle.rules.proofs.Table.{Proper}
 use Rattle.rules.proofs.Append.{Reads, Begins, fine, broken}
 use Rattle.rules.proofs.Hoare.{Run, nil, cons}
@@ -47,26 +48,20 @@ module _ (a b : ℕ) (h : a ≤ b) where
       go false i = refl
       go true i = absurd (true≢false (sym (le-leb a p (le-trans h (leb-true b p i))) ∙ e))
 
+  begins-mono : (r : Role) (vs : List ℕ) → beginsFrom a r vs ≡ false → beginsFrom b r vs ≡ false
+  begins-mono aStatement vs e = leb-false-mono (getD vs 0 0) e
+  begins-mono aTimes vs e = refl
+  begins-mono (anExpression m) vs e = refl
+  begins-mono (anOperand m) vs e = refl
+  begins-mono (aLine m o) vs e = refl
+
   pub from-mono : (r : Record) → statementFrom a r ≡ false → statementFrom b r ≡ false
   unfolding statementFrom
-  from-mono (ST p) e = leb-false-mono p e
-  from-mono (VC p q v) e = refl
-  from-mono (VL p q) e = refl
-  from-mono (VI p q) e = refl
-  from-mono (VS p q) e = refl
-  from-mono (PF p q o) e = refl
-  from-mono (IN p q o) e = refl
-  from-mono (OR p q r) e = refl
-  from-mono (OS p q s) e = refl
-  from-mono (OI p q) e = refl
-  from-mono (OF p q) e = refl
-  from-mono (OD p q z s) e = refl
-  from-mono (OX p q e′ d z s) e = refl
-  from-mono (LL p q) e = refl
-  from-mono (LI p q o n p′ q′) e = refl
-  from-mono (LD p q d) e = refl
-  from-mono (LC p q) e = refl
-  from-mono LT e = refl
+  from-mono r e = go (formOf (markOf r)) e
+    where
+      go : (o : Option Form) → maybe o false (λ w. beginsFrom a (w .role) (fieldsOf r)) ≡ false → maybe o false (λ w. beginsFrom b (w .role) (fieldsOf r)) ≡ false
+      go none e = refl
+      go (some w) e = begins-mono (w .role) (fieldsOf r) e
 
 extras-append : (w v : List Record) → Extras w → Extras v → Extras (w ++ v)
 extras-append [] v h i = i
@@ -107,7 +102,7 @@ module _ (n hi : ℕ) where
 
   pub data Listed (lo : ℕ) (κ : Stack) : Answer State (Unit {0}) → Type 0 where
     listed : {w : List Record} {u : State} → Fits lo κ w → Listed lo κ (done w tt u)
-    unlisted : {r : Refusal} → Listed lo κ (refused r)
+    unlisted : {r : Cause} → Listed lo κ (refused r)
 
   none-more : (lo : ℕ) (κ : Stack) → Ready lo κ → Fits lo κ []
   unfolding checkedAll

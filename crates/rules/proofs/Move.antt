@@ -12,8 +12,8 @@ use lib.Dec.{ltb, eqb}
 use lib.ListN.{length-map}
 use Rattle.lexer.specs.Text.{if_then_else_, maybe, is}
 use Rattle.rules.specs.Lexemes.{Kind, word, number, quoted, mark, newline, blank, comment, invalid, end, bad, Lexeme, nameIn}
-use Rattle.rules.specs.Records.{Record, ST, VC, VL, VI, VS, PF, IN, OR, OS, OI, OF, OD, OX, LL, LI, LD, LC, LT, moveRecord}
-use Rattle.rules.specs.Reader.{Refusal, at, nowhere, encoding, Answer, done, refused, Reader, Line, after, thence, _>>=_, _>>_, return, write, refuse, orBack, attempt, refusedAs, arrive, step, next, ahead, kind, passed, left, refuseHere, isMark, isLineEnd, expect}
+use Rattle.rules.specs.Records.{Record, plain, laden, moveRecord}
+use Rattle.rules.specs.Reader.{Cause, at, nowhere, encoding, Answer, done, refused, Reader, Line, after, thence, _>>=_, _>>_, return, write, refuse, orBack, attempt, refusedAs, arrive, step, next, ahead, kind, passed, left, refuseHere, isMark, isLineEnd, expect}
 use Rattle.names.specs.Names.{registers, segments, sizes}
 use Rattle.rules.specs.Operands.{immediateOrFar, alone, isIndex, isBase, paired, plusIndex, second, registersAhead, displacement, close, override, isWord, isNumber, memory, operandSized, operand, Operands, operands}
 use Rattle.rules.specs.Expressions.{operatorOf, leftLevel, rightLevel, prefixLevel, character, atomOf, atom, primary, infixes, expr, expression}
@@ -31,34 +31,18 @@ Option-map g none = none
 Option-map g (some a) = some (g a)
 
 -- A refusal other than 34, which alone depends on the lines below; and no refusal's number is 0.
-abbrev pub Mild : Refusal → Type 0
+abbrev pub Mild : Cause → Type 0
 Mild (at n f t) = (eqb n 34 || eqb n 0) ≡ false
 Mild (nowhere n) = (eqb n 34 || eqb n 0) ≡ false
 Mild (encoding f t a b) = Unit {0}
 
-abbrev pub Any : Refusal → Type 0
+abbrev pub Any : Cause → Type 0
 Any r = Unit {0}
 
 -- Any record but the data's, which are read by lines; any record at all.
 abbrev pub NotData : Record → Type 0
-NotData (ST p) = Unit {0}
-NotData (VC f t v) = Unit {0}
-NotData (VL f t) = Unit {0}
-NotData (VI f t) = Unit {0}
-NotData (VS f t) = Unit {0}
-NotData (PF f t o) = Unit {0}
-NotData (IN f t o) = Unit {0}
-NotData (OR f t r) = Unit {0}
-NotData (OS f t s) = Unit {0}
-NotData (OI f t) = Unit {0}
-NotData (OF f t) = Unit {0}
-NotData (OD f t z s) = Unit {0}
-NotData (OX f t e d z s) = Unit {0}
-NotData (LL f t) = Unit {0}
-NotData (LI f t o n f′ t′) = Unit {0}
-NotData (LD f t d) = ⊥
-NotData (LC f t) = Unit {0}
-NotData LT = Unit {0}
+NotData (plain m ns) = Unit {0}
+NotData (laden m ns d) = ⊥
 
 abbrev pub AnyRecord : Record → Type 0
 AnyRecord r = Unit {0}
@@ -78,16 +62,16 @@ bad-mild invalid n h = cc
 bad-mild end n h = cc
 
 -- An answer that leaves P of the state, or refuses with one of M.
-abbrev pub Stays : {S A : Type 0} → (S → Type 0) → (Refusal → Type 0) → Answer S A → Type 0
+abbrev pub Stays : {S A : Type 0} → (S → Type 0) → (Cause → Type 0) → Answer S A → Type 0
 Stays P M (done w a s) = P s
 Stays P M (refused r) = M r
 
-pub after-stays : {S A : Type 0} (P : S → Type 0) (M : Refusal → Type 0) (w : List Record) (p : Answer S A) → Stays P M p → Stays P M (after w p)
+pub after-stays : {S A : Type 0} (P : S → Type 0) (M : Cause → Type 0) (w : List Record) (p : Answer S A) → Stays P M p → Stays P M (after w p)
 unfolding after
 after-stays P M w (done v a s) h = h
 after-stays P M w (refused r) h = h
 
-pub thence-stays : {S A B : Type 0} (P : S → Type 0) (M : Refusal → Type 0) (k : A → Reader S B) → ((a : A) (s : S) → P s → Stays P M (k a s)) → (p : Answer S A) → Stays P M p → Stays P M (thence p k)
+pub thence-stays : {S A B : Type 0} (P : S → Type 0) (M : Cause → Type 0) (k : A → Reader S B) → ((a : A) (s : S) → P s → Stays P M (k a s)) → (p : Answer S A) → Stays P M p → Stays P M (thence p k)
 unfolding thence
 thence-stays P M k e (done w a s) h = after-stays P M w (k a s) (e a s h)
 thence-stays P M k e (refused r) h = h
@@ -135,30 +119,30 @@ arrived T x {p} m h = go (refusedAs (x .kind)) refl
     go none e = h
     go (some n) e = m n e
 
-orBack-stays : {S A : Type 0} (P : S → Type 0) (M : Refusal → Type 0) (a : A) (s : S) → P s → (p : Answer S (Option A)) → Stays P M p → Stays P M (orBack p a s)
+orBack-stays : {S A : Type 0} (P : S → Type 0) (M : Cause → Type 0) (a : A) (s : S) → P s → (p : Answer S (Option A)) → Stays P M p → Stays P M (orBack p a s)
 unfolding orBack
 orBack-stays P M a s i (done w none t) h = i
 orBack-stays P M a s i (done w (some b) t) h = h
 orBack-stays P M a s i (refused r) h = h
 
-module _ {S : Type 0} (σ : S → S) (ρ : Record → Record) (κ : Refusal → Refusal) where
+module _ {S : Type 0} (σ : S → S) (ρ : Record → Record) (κ : Cause → Cause) where
   unfoldable pub carry : {A : Type 0} → (A → A) → Answer S A → Answer S A
   carry g (done w a s) = done (map ρ w) (g a) (σ s)
   carry g (refused r) = refused (κ r)
 
-  pub record Moves (P : S → Type 0) (M : Refusal → Type 0) (W : Record → Type 0) {A : Type 0} (g : A → A) (m m′ : Reader S A) : Type 0 where
+  pub record Moves (P : S → Type 0) (M : Cause → Type 0) (W : Record → Type 0) {A : Type 0} (g : A → A) (m m′ : Reader S A) : Type 0 where
     pub law : (s : S) → m′ (σ s) ≡ carry g (m s)
     pub keeps : (s : S) → P s → Stays P M (m s)
     pub wrote : (s : S) → Wrote W (m s)
 
 -- what readers are made of
-module _ {S : Type 0} (σ : S → S) (ρ : Record → Record) (κ : Refusal → Refusal) where
+module _ {S : Type 0} (σ : S → S) (ρ : Record → Record) (κ : Cause → Cause) where
   pub after-carry : {A : Type 0} (g : A → A) (w : List Record) (p : Answer S A) → after (map ρ w) (carry σ ρ κ g p) ≡ carry σ ρ κ g (after w p)
   unfolding after carry
   after-carry g w (done v a s) = ap (λ (r : List Record). done r (g a) (σ s)) (sym (map-append ρ w v))
   after-carry g w (refused r) = refl
 
-  thence-carry : {A B : Type 0} (P : S → Type 0) (M : Refusal → Type 0) (W : Record → Type 0) (g : A → A) (h : B → B) (k k′ : A → Reader S B)
+  thence-carry : {A B : Type 0} (P : S → Type 0) (M : Cause → Type 0) (W : Record → Type 0) (g : A → A) (h : B → B) (k k′ : A → Reader S B)
       → ((a : A) → Moves σ ρ κ P M W h (k a) (k′ (g a)))
       → (p : Answer S A) → thence (carry σ ρ κ g p) k′ ≡ carry σ ρ κ h (thence p k)
   unfolding carry thence
@@ -172,7 +156,7 @@ module _ {S : Type 0} (σ : S → S) (ρ : Record → Record) (κ : Refusal → 
   orBack-carry g a s (done w (some b) t) = refl
   orBack-carry g a s (refused r) = refl
 
-module _ {S : Type 0} {σ : S → S} {ρ : Record → Record} {κ : Refusal → Refusal} {P : S → Type 0} {M : Refusal → Type 0} {W : Record → Type 0} where
+module _ {S : Type 0} {σ : S → S} {ρ : Record → Record} {κ : Cause → Cause} {P : S → Type 0} {M : Cause → Type 0} {W : Record → Type 0} where
   pub bind : {A B : Type 0} {g : A → A} {h : B → B} {m m′ : Reader S A} {k : A → Reader S B} (k′ : A → Reader S B)
       → Moves σ ρ κ P M W g m m′ → ((a : A) → Moves σ ρ κ P M W h (k a) (k′ (g a))) → Moves σ ρ κ P M W h (m >>= k) (m′ >>= k′)
   unfolding _>>=_
@@ -195,7 +179,7 @@ module _ {S : Type 0} {σ : S → S} {ρ : Record → Record} {κ : Refusal → 
   unfolding write carry
   writes r i = record { law = λ s. refl; keeps = λ s h. h; wrote = λ s. (i, tt) }
 
-  pub refuses : {A : Type 0} (g : A → A) (r : Refusal) → M r → Moves σ ρ κ P M W g (refuse r) (refuse (κ r))
+  pub refuses : {A : Type 0} (g : A → A) (r : Cause) → M r → Moves σ ρ κ P M W g (refuse r) (refuse (κ r))
   unfolding refuse carry
   refuses g r m = record { law = λ s. refl; keeps = λ s h. m; wrote = λ s. tt }
 
@@ -222,7 +206,7 @@ module _ (f : ℕ → ℕ) where
   unfoldable pub moveToken : Lexeme → Lexeme
   moveToken x = record { from = f (x .from); to = f (x .to); kind = x .kind }
 
-  unfoldable pub moveRefusal : Refusal → Refusal
+  unfoldable pub moveRefusal : Cause → Cause
   moveRefusal (at n p q) = at n (f p) (f q)
   moveRefusal (nowhere n) = nowhere n
   moveRefusal (encoding p q a b) = encoding (f p) (f q) a b

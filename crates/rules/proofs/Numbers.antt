@@ -17,7 +17,7 @@ use Rattle.lexer.specs.declared.Fault.the-variants.{LargerDigit, TooLarge}
 use Rattle.lexer.specs.declared.TokenRead.{TokenRead}
 use Rattle.lexer.specs.declared.TokenRead.the-variants.{Read, Refused}
 use Rattle.rules.specs.Records.{Record, listing}
-use Rattle.rules.specs.Reader.{Refusal, at, nowhere, encoding, valuesOf, Answer, done, refused, thence, _>>=_, refusedAs, arrive}
+use Rattle.rules.specs.Reader.{Cause, at, nowhere, encoding, numbersOf, Answer, done, refused, thence, _>>=_, refusedAs, arrive}
 use Rattle.rules.specs.Statements.{Profile, Row, State, enter, statement, statements, Outcome, accepted, refusal, readRows, readFrom, reading}
 use Rattle.rules.specs.Calls.{Result, gives, refuses, unless, tooLong, foreign, ascii, lent, lentAt, inRoom, tokenRead, tokenCall, listed, fullRead, oneFound, oneRead, statementCall}
 use Rattle.rules.specs.Evaluate.{signed32, evaluate}
@@ -31,14 +31,14 @@ use Rattle.rules.proofs.Cut.{Lack, rowsFrom, gives as given, mild-or-la
 -- A call's answer: accepted, or refused with a number that is not 0.
 data Numbered {A : Type 0} : Result A → Type 0 where
   accepts : {a : A} → Numbered (gives a)
-  named : {c : Refusal} → ¬ (valuesOf c .number ≡ 0) → Numbered (refuses c)
+  named : {c : Cause} → ¬ (numbersOf c .number ≡ 0) → Numbered (refuses c)
 
-tells : {A : Type 0} {x : Result A} {c : Refusal} → Numbered x → x ≡ refuses c → ¬ (valuesOf c .number ≡ 0)
+tells : {A : Type 0} {x : Result A} {c : Cause} → Numbered x → x ≡ refuses c → ¬ (numbersOf c .number ≡ 0)
 tells accepts e = absurd (true≢false cc)
 tells {c = c} (named {c = c′} h) e = let k : c′ ≡ c = cc in rw k at h
 
 module _ {A : Type 0} where
-  unless-numbered : (b : Bool) (r : Refusal) {x : Result A} → ¬ (valuesOf r .number ≡ 0) → Numbered x → Numbered (unless b r x)
+  unless-numbered : (b : Bool) (r : Cause) {x : Result A} → ¬ (numbersOf r .number ≡ 0) → Numbered x → Numbered (unless b r x)
   unfolding unless
   unless-numbered true r h n = named h
   unless-numbered false r h n = n
@@ -66,7 +66,7 @@ module _ {A : Type 0} where
 not-zero : (n : ℕ) → (eqb n 34 || eqb n 0) ≡ false → ¬ (n ≡ 0)
 not-zero n h e = true≢false (rw e at h)
 
-mild-numbered : (r : Refusal) → Mild r ⊎ Lack r → ¬ (valuesOf r .number ≡ 0)
+mild-numbered : (r : Cause) → Mild r ⊎ Lack r → ¬ (numbersOf r .number ≡ 0)
 mild-numbered (at n f t) (inl m) = not-zero n m
 mild-numbered (at n f t) (inr l) = λ e. let k : n ≡ 34 = eqb-true n 34 l in omega arith
 mild-numbered (nowhere n) (inl m) = not-zero n m
@@ -100,7 +100,7 @@ evaluate-numbered op a b = go (eqb op 0) (eqb op 1) (eqb op 2)
 module _ (profile : Profile) where
   OutcomeNumbered : Outcome → Type 0
   OutcomeNumbered (accepted w) = Unit {0}
-  OutcomeNumbered (refusal r) = ¬ (valuesOf r .number ≡ 0)
+  OutcomeNumbered (refusal r) = ¬ (numbersOf r .number ≡ 0)
 
   reading-numbered : (p : ℕ) (s : List ℕ) (o : Outcome) → readFrom profile p s ≡ o → OutcomeNumbered o
   unfolding OutcomeNumbered
@@ -113,11 +113,11 @@ module _ (profile : Profile) where
   listed-numbered room (refusal r) h = named h
 
   -- where a statement is refused, so are the statements from it on
-  first-refused : (n : ℕ) (s : State) (c : Refusal) → statement profile s ≡ refused c → statements profile (suc n) s ≡ refused c
+  first-refused : (n : ℕ) (s : State) (c : Cause) → statement profile s ≡ refused c → statements profile (suc n) s ≡ refused c
   unfolding statements _>>=_ thence
   first-refused n s c e = rw e
 
-  one-refused : (n : ℕ) (l : List Row) (c : Refusal) → oneRead profile l ≡ refused c → readRows profile (suc n) l ≡ refused c
+  one-refused : (n : ℕ) (l : List Row) (c : Cause) → oneRead profile l ≡ refused c → readRows profile (suc n) l ≡ refused c
   unfolding oneRead readRows arrive
   one-refused n [] c e = let k : nowhere 0 ≡ c = cc in ap refused k
   one-refused n (r ∷ rs) c e = go (refusedAs (r .first .kind)) e

@@ -3,12 +3,12 @@
 use mathlib.Core.Path.{_≡_, refl, sym, ap, ap₂, _∙_}
 use mathlib.Core.Bool.{Bool, true, false}
 use mathlib.Core.List.{List, [], _∷_, _++_, map}
-use Prim.Native.Nat.{ℕ, _+_}
+use Prim.Native.Nat.{ℕ, suc, _+_, _*_}
 use lib.ListN.{length, length-append}
-use Rattle.lexer.specs.Text.{if_then_else_, bytes}
-use Rattle.rules.specs.Records.{Record, ST, VC, VL, VI, VS, PF, IN, OR, OS, OI, OF, OD, OX, LL, LI, LD, LC, LT, field, fields, encode, listing, moveRecord}
+use Rattle.lexer.specs.Text.{if_then_else_}
+use Rattle.rules.specs.Records.{Record, plain, laden, encode, listing, Cell, cellsOf, moveCells, moveRecord}
 use Rattle.rules.specs.Patch.{statementFrom, recordsBelow, recordsOn}
-use Rattle.rules.proofs.Records.{listing-append}
+use Rattle.rules.proofs.Records.{listing-append, length-plain, length-laden}
 
 -- the statements below a place and from it on are all
 pub below-on : (a : ℕ) (rs : List Record) → recordsBelow a rs ++ recordsOn a rs ≡ rs
@@ -25,26 +25,16 @@ pub kept-bytes : (a : ℕ) (rs : List Record) → listing rs ≡ listing (record
 kept-bytes a rs = ap listing (sym (below-on a rs)) ∙ listing-append (recordsBelow a rs) (recordsOn a rs)
 
 -- a moved record is as long
+fields-moved : (f : ℕ → ℕ) (cs : List Cell) (ns : List ℕ) → length (moveCells f cs ns) ≡ length ns
+unfolding moveCells
+fields-moved f [] ns = refl
+fields-moved f (c ∷ cs) [] = refl
+fields-moved f (c ∷ cs) (n ∷ ns) = ap suc (fields-moved f cs ns)
+
 pub length-moved : (f : ℕ → ℕ) (r : Record) → length (encode (moveRecord f r)) ≡ length (encode r)
-unfolding moveRecord encode fields field bytes
-length-moved f (ST p) = refl
-length-moved f (VC p q v) = refl
-length-moved f (VL p q) = refl
-length-moved f (VI p q) = refl
-length-moved f (VS p q) = refl
-length-moved f (PF p q o) = refl
-length-moved f (IN p q o) = refl
-length-moved f (OR p q r) = refl
-length-moved f (OS p q s) = refl
-length-moved f (OI p q) = refl
-length-moved f (OF p q) = refl
-length-moved f (OD p q z s) = refl
-length-moved f (OX p q e d z s) = refl
-length-moved f (LL p q) = refl
-length-moved f (LI p q o n p′ q′) = refl
-length-moved f (LD p q d) = refl
-length-moved f (LC p q) = refl
-length-moved f LT = refl
+unfolding moveRecord
+length-moved f (plain m ns) = length-plain m (moveCells f (cellsOf m) ns) ∙ ap (λ (n : ℕ). length m + 4 * n) (fields-moved f (cellsOf m) ns) ∙ sym (length-plain m ns)
+length-moved f (laden m ns d) = length-laden m (moveCells f (cellsOf m) ns) d ∙ ap (λ (n : ℕ). length m + (4 * n + 4 + length d)) (fields-moved f (cellsOf m) ns) ∙ sym (length-laden m ns d)
 
 pub listing-moved : (f : ℕ → ℕ) (rs : List Record) → length (listing (map (moveRecord f) rs)) ≡ length (listing rs)
 unfolding listing

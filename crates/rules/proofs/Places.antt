@@ -1,25 +1,21 @@
 -- The places of the statements from a place on are not below it, in a well-formed listing: places rise, and spans begin at the place or
 -- behind it.
-use mathlib.Core.Path.{_≡_, refl}
-use mathlib.Core.Bool.{Bool, true, false, _&&_, true≢false, false≢true}
+use mathlib.Core.Path.{_≡_, refl, ap}
+use mathlib.Core.Bool.{Bool, true, false, true≢false, false≢true}
 use mathlib.Core.List.{List, [], _∷_, map}
 use mathlib.Core.Option.{Option, none, some}
 use Prim.Native.Nat.{ℕ, _+_, _≤_}
 use native.Mathlib.Omega.{arith}
-use lib.Dec.{eqb, leb, ltb}
+use lib.Dec.{eqb}
+use lib.ListN.{getD}
 use borrow.Author.Tests.{leb-true}
 use Rattle.lexer.specs.Text.{if_then_else_, maybe}
-use Rattle.lexer.proofs.Branches.{either, given as branch, and-split}
-use Rattle.rules.specs.Records.{Record, ST, VC, VL, VI, VS, PF, IN, OR, OS, OI, OF, OD, OX, LL, LI, LD, LC, LT, moveRecord, places}
-use Rattle.rules.specs.WellFormed.{Stack, stack, allow, toExpression, toOperand, toLine, complete, spans, given, checked, checkedAll, fresh, wellFormed}
-use Rattle.rules.specs.Patch.{statementFrom, recordsOn}
+use Rattle.lexer.proofs.Branches.{either, given as branch}
+use Rattle.rules.specs.Records.{Field, start, span, value, below, Role, aStatement, aTimes, anExpression, anOperand, aLine, Form, formOf, Record, plain, laden, markOf, fieldsOf, Cell, aPlace, aNumber, aSigned, cells, cellsOf, moveCells, moveRecord, placesIn, places}
+use Rattle.rules.specs.WellFormed.{Stack, stack, allow, toExpression, toOperand, toLine, complete, counted, makes, checked, checkedAll, fresh, wellFormed}
+use Rattle.rules.specs.Patch.{beginsFrom, statementFrom, recordsOn}
 use Rattle.rules.specs.Claims.{Each, MovesExactly}
-use Rattle.rules.proofs.Ranged.{given-true, allow-true}
-
-given-same : (c : Bool) (o : Option Stack) {k : Stack} → given c o ≡ some k → o ≡ some k
-unfolding given
-given-same true o h = h
-given-same false o h = absurd (true≢false cc)
+use Rattle.rules.proofs.Forms.{Within, Taken, taken, fields-within, starts}
 
 allow-same : (c : Bool) (x : Stack) {k : Stack} → allow c x ≡ some k → x ≡ k
 unfolding allow
@@ -30,6 +26,11 @@ allow-same false x h = absurd (true≢false cc)
 record High (b : ℕ) (k : Stack) : Type 0 where
   place : b ≤ k .place
   floor : b ≤ k .floor
+
+-- A statement that begins at b or behind it.
+begins-high : {b : ℕ} (k : Stack) {k′ : Stack} (vs : List ℕ) → b ≤ getD vs 0 0 → makes k aStatement vs ≡ some k′ → High b k′
+unfolding makes
+begins-high k vs i e = rw (← allow-same _ _ e) (record { place = i; floor = omega arith })
 
 module _ (b : ℕ) {k k′ : Stack} (h : High b k) where
   stack-high : (c : Bool) (x y z : ℕ) (d : Bool) → allow c (stack k x y z d) ≡ some k′ → High b k′
@@ -48,56 +49,55 @@ module _ (b : ℕ) {k k′ : Stack} (h : High b k) where
   unfolding toLine
   line-high n m = stack-high _ _ _ _ _
 
--- A statement that begins at b or behind it.
-begins-high : (n b p : ℕ) (k : Stack) {k′ : Stack} → b ≤ p → checked n k (ST p) ≡ some k′ → High b k′
-unfolding checked
-begins-high n b p k h e = rw (← allow-same _ _ e) (record { place = h; floor = omega arith })
+  makes-high : (r : Role) (vs : List ℕ) → (r ≡ aStatement → b ≤ getD vs 0 0) → makes k r vs ≡ some k′ → High b k′
+  unfolding makes
+  makes-high aStatement vs i e = begins-high k vs (i refl) e
+  makes-high aTimes vs i e = stack-high _ _ _ _ _ e
+  makes-high (anExpression m) vs i e = expression-high m e
+  makes-high (anOperand m) vs i e = operand-high (counted m vs) e
+  makes-high (aLine m o) vs i e = line-high m (counted o vs) e
 
-module _ (n b : ℕ) (k k′ : Stack) (h : High b k) where
-  abbrev All : List ℕ → Type 0
-  All ps = Each (λ k. b ≤ k) ps
+-- Each place of a record, by what it holds.
+abbrev All : ℕ → List ℕ → Type 0
+All b ps = Each (λ k. b ≤ k) ps
 
-  spans-high : (f t : ℕ) → spans n k f t ≡ true → (b ≤ f) × (b ≤ t)
-  unfolding spans
-  spans-high f t i =
-      let (c, _) = and-split (leb (k .place) f && leb f t) (leb t n) i in
-      let (d, e) = and-split (leb (k .place) f) (leb f t) c in
-      (omega (arith, h .place, leb-true (k .place) f d), omega (arith, h .place, leb-true (k .place) f d, leb-true f t e))
+module _ (n b : ℕ) (k : Stack) where
+  within-high : High b k → (hs : List Field) (vs : List ℕ) → Within n k hs vs → All b (placesIn (cells hs) vs)
+  unfolding cells placesIn
+  within-high h [] vs i = tt
+  within-high h (start ∷ hs) [] i = absurd i
+  within-high h (start ∷ hs) (p ∷ vs) i = (omega (arith, h .floor, i .0), within-high h hs vs (i .2))
+  within-high h (span ∷ hs) [] i = absurd i
+  within-high h (span ∷ hs) (f ∷ []) i = absurd i
+  within-high h (span ∷ hs) (f ∷ t ∷ vs) i = (omega (arith, h .place, i .0), (omega (arith, h .place, i .0, i .1), within-high h hs vs (i .3)))
+  within-high h (value ∷ hs) [] i = absurd i
+  within-high h (value ∷ hs) (v ∷ vs) i = within-high h hs vs i
+  within-high h (below m ∷ hs) [] i = absurd i
+  within-high h (below m ∷ hs) (v ∷ vs) i = within-high h hs vs (i .1)
 
-  -- A span among what is asked of the record, and what becomes of the stack.
-  spanned : (f t : ℕ) (c : Bool) → (c ≡ true → spans n k f t ≡ true) → {o : Option Stack} → (o ≡ some k′ → High b k′) → given c o ≡ some k′ → All (f ∷ t ∷ []) × High b k′
-  spanned f t c j {o} i e = let (l, m) = spans-high f t (j (given-true c o e)) in ((l, (m, tt)), i (given-same c o e))
+  first-high : High b k → (vs : List ℕ) → Within n k (start ∷ []) vs → b ≤ getD vs 0 0
+  first-high h [] i = absurd i
+  first-high h (p ∷ vs) i = omega (arith, h .floor, i .0)
 
-  first : (c d : Bool) → c && d ≡ true → c ≡ true
-  first c d i = and-split c d i .0
+  one-place : (vs : List ℕ) → Within n k (start ∷ []) vs → b ≤ getD vs 0 0 → All b (placesIn (cells (start ∷ [])) vs)
+  unfolding cells placesIn
+  one-place [] i h = absurd i
+  one-place (p ∷ []) i h = (h, tt)
+  one-place (p ∷ q ∷ vs) i h = absurd (i .2)
 
-  one-high : (r : Record) → checked n k r ≡ some k′ → All (places r) × High b k′
-  unfolding checked places
-  one-high (ST p) e =
-      let (c, _) = and-split (complete k && leb (k .floor) p) (leb p n) (allow-true _ _ e) in
-      let (_, d) = and-split (complete k) (leb (k .floor) p) c in
-      let i : b ≤ p = omega (arith, h .floor, leb-true (k .floor) p d) in
-      ((i, tt), begins-high n b p k i e)
-  one-high (VC f t v) e = spanned f t _ (λ i. i) (expression-high b h 0) e
-  one-high (VL f t) e = spanned f t _ (λ i. i) (expression-high b h 0) e
-  one-high (VI f t) e = spanned f t _ (λ i. i) (expression-high b h 0) e
-  one-high (VS f t) e = spanned f t _ (λ i. i) (expression-high b h 0) e
-  one-high (PF f t o) e = spanned f t _ (first _ _) (expression-high b h 1) e
-  one-high (IN f t o) e = spanned f t _ (first _ _) (expression-high b h 2) e
-  one-high (OR f t r) e = spanned f t _ (first _ _) (operand-high b h 0) e
-  one-high (OS f t s) e = spanned f t _ (first _ _) (operand-high b h 0) e
-  one-high (OI f t) e = spanned f t _ (λ i. i) (operand-high b h 1) e
-  one-high (OF f t) e = spanned f t _ (λ i. i) (operand-high b h 2) e
-  one-high (OD f t z s) e = spanned f t _ (λ i. first _ _ (first _ _ i)) (operand-high b h 1) e
-  one-high (OX f t c d z s) e = spanned f t _ (λ i. first _ _ (first _ _ (first _ _ (first _ _ i)))) (operand-high b h d) e
-  one-high (LL f t) e = spanned f t _ (λ i. i) (line-high b h 0 0) e
-  one-high (LI f t o m f′ t′) e =
-      let ((c, (d, _)), i) = spanned f t _ (λ i. first _ _ (first _ _ (first _ _ i))) (line-high b h 0 m) e in
-      let (_, j) = and-split (spans n k f t && ltb o 99 && leb m 2) (spans n k f′ t′) (given-true _ _ e) in
-      let (c′, d′) = spans-high f′ t′ j in ((c, (d, (c′, (d′, tt)))), i)
-  one-high (LD f t d) e = spanned f t _ (first _ _) (line-high b h 0 0) e
-  one-high (LC f t) e = spanned f t _ (λ i. i) (line-high b h 1 0) e
-  one-high LT e = (tt, stack-high b h _ _ _ _ _ e)
+placed : (r : Record) (w : Form) → formOf (markOf r) ≡ some w → places r ≡ placesIn (cells (w .holds)) (fieldsOf r)
+unfolding places cellsOf
+placed r w e = rw e
+
+one-high : (n b : ℕ) (k k′ : Stack) → High b k → (r : Record) → checked n k r ≡ some k′ → All b (places r) × High b k′
+one-high n b k k′ h r e =
+    let q : Taken n k r k′ = taken n k r e in
+    let w : Form = q .described in
+    let vs : List ℕ = fieldsOf r in
+    let i : Within n k (w .holds) vs = fields-within r q in (
+      rw (placed r w (q .so)) (within-high n b k h (w .holds) vs i),
+      makes-high b h (w .role) vs (λ s. first-high n b k h vs (rw (starts (markOf r) w (q .so) s) at i)) (q .made),
+    )
 
 -- Of the records from the first statement on that begins at b or behind it.
 abbrev AllHigh : ℕ → List Record → Type 0
@@ -112,26 +112,22 @@ all-high n b k (r ∷ rs) {top} h e = go (checked n k r) refl e (λ k′ i j. al
     go none i j again = absurd (true≢false cc)
     go (some k′) i j again = let (l, m) = one-high n b k k′ h r i in (l, again k′ m j)
 
-begun-high : (n b : ℕ) (k k′ : Stack) (r : Record) → statementFrom b r ≡ true → checked n k r ≡ some k′ → Each (λ k. b ≤ k) (places r) × High b k′
-unfolding statementFrom places
-begun-high n b k k′ (ST p) h e = let i : b ≤ p = leb-true b p h in ((i, tt), begins-high n b p k i e)
-begun-high n b k k′ (VC f t v) h e = absurd (false≢true h)
-begun-high n b k k′ (VL f t) h e = absurd (false≢true h)
-begun-high n b k k′ (VI f t) h e = absurd (false≢true h)
-begun-high n b k k′ (VS f t) h e = absurd (false≢true h)
-begun-high n b k k′ (PF f t o) h e = absurd (false≢true h)
-begun-high n b k k′ (IN f t o) h e = absurd (false≢true h)
-begun-high n b k k′ (OR f t r) h e = absurd (false≢true h)
-begun-high n b k k′ (OS f t s) h e = absurd (false≢true h)
-begun-high n b k k′ (OI f t) h e = absurd (false≢true h)
-begun-high n b k k′ (OF f t) h e = absurd (false≢true h)
-begun-high n b k k′ (OD f t z s) h e = absurd (false≢true h)
-begun-high n b k k′ (OX f t c d z s) h e = absurd (false≢true h)
-begun-high n b k k′ (LL f t) h e = absurd (false≢true h)
-begun-high n b k k′ (LI f t o m f′ t′) h e = absurd (false≢true h)
-begun-high n b k k′ (LD f t d) h e = absurd (false≢true h)
-begun-high n b k k′ (LC f t) h e = absurd (false≢true h)
-begun-high n b k k′ LT h e = absurd (false≢true h)
+begins-role : (b : ℕ) (r : Role) (vs : List ℕ) → beginsFrom b r vs ≡ true → (r ≡ aStatement) × (b ≤ getD vs 0 0)
+begins-role b aStatement vs h = (refl, leb-true b (getD vs 0 0) h)
+begins-role b aTimes vs h = absurd (false≢true h)
+begins-role b (anExpression m) vs h = absurd (false≢true h)
+begins-role b (anOperand m) vs h = absurd (false≢true h)
+begins-role b (aLine m o) vs h = absurd (false≢true h)
+
+begun-high : (n b : ℕ) (k k′ : Stack) (r : Record) → statementFrom b r ≡ true → checked n k r ≡ some k′ → All b (places r) × High b k′
+unfolding statementFrom
+begun-high n b k k′ r h e =
+    let q : Taken n k r k′ = taken n k r e in
+    let w : Form = q .described in
+    let vs : List ℕ = fieldsOf r in
+    let (s, i) = begins-role b (w .role) vs (rw (q .so) at h) in
+    let z : w .holds ≡ start ∷ [] = starts (markOf r) w (q .so) s in
+    (rw (placed r w (q .so), z) (one-place n b k vs (rw z at (fields-within r q)) i), begins-high k vs i (rw s at (q .made)))
 
 on-high : (n b : ℕ) (k : Stack) (rs : List Record) {top : Stack} → checkedAll n k rs ≡ some top → AllHigh b (recordsOn b rs)
 unfolding checkedAll recordsOn
@@ -155,26 +151,18 @@ each : {A : Type 0} {P Q : A → Type 0} → ((x : A) → P x → Q x) → (xs :
 each f [] h = tt
 each f (x ∷ xs) h = (f x (h .0), each f xs (h .1))
 
+places-moved : (m : ℕ → ℕ) (cs : List Cell) (vs : List ℕ) → placesIn cs (moveCells m cs vs) ≡ map m (placesIn cs vs)
+unfolding placesIn moveCells
+places-moved m [] vs = refl
+places-moved m (c ∷ cs) [] = refl
+places-moved m (aPlace ∷ cs) (v ∷ vs) = ap (λ (ps : List ℕ). m v ∷ ps) (places-moved m cs vs)
+places-moved m (aNumber ∷ cs) (v ∷ vs) = places-moved m cs vs
+places-moved m (aSigned ∷ cs) (v ∷ vs) = places-moved m cs vs
+
 moved-places : (m : ℕ → ℕ) (r : Record) → places (moveRecord m r) ≡ map m (places r)
 unfolding places moveRecord
-moved-places m (ST p) = refl
-moved-places m (VC f t v) = refl
-moved-places m (VL f t) = refl
-moved-places m (VI f t) = refl
-moved-places m (VS f t) = refl
-moved-places m (PF f t o) = refl
-moved-places m (IN f t o) = refl
-moved-places m (OR f t r) = refl
-moved-places m (OS f t s) = refl
-moved-places m (OI f t) = refl
-moved-places m (OF f t) = refl
-moved-places m (OD f t z s) = refl
-moved-places m (OX f t c d z s) = refl
-moved-places m (LL f t) = refl
-moved-places m (LI f t o n f′ t′) = refl
-moved-places m (LD f t d) = refl
-moved-places m (LC f t) = refl
-moved-places m LT = refl
+moved-places m (plain c vs) = places-moved m (cellsOf c) vs
+moved-places m (laden c vs d) = places-moved m (cellsOf c) vs
 
 -- THE PLACES MOVE EXACTLY.
 pub moves-exactly : MovesExactly

@@ -1,20 +1,21 @@
 -- The fields of a listing that the check lets pass, of a source that is not too long, fit their four bytes: places are at most the source's
 -- length, and the others are bounded each by its own test. VC's value and LD's count, which the check leaves free, are given.
-use mathlib.Core.Path.{_≡_, refl}
-use mathlib.Core.Bool.{Bool, true, false, _&&_, true≢false}
+use mathlib.Core.Path.{_≡_, refl, sym}
+use mathlib.Core.Bool.{Bool, true, false, not, true≢false}
 use mathlib.Core.List.{List, [], _∷_}
 use mathlib.Core.Option.{Option, none, some}
-use Prim.Native.Nat.{ℕ, _≤_}
+use Prim.Native.Nat.{ℕ, _*_, _≤_}
 use native.Mathlib.Omega.{arith}
 use lib.Dec.{leb, ltb}
-use lib.ListN.{length}
-use borrow.Author.Tests.{leb-true, ltb-true}
+use lib.ListN.{length, getD}
+use borrow.Author.Tests.{leb-true}
 use Rattle.lexer.specs.Text.{maybe}
 use Rattle.lexer.proofs.Branches.{and-split}
-use Rattle.rules.specs.Records.{Record, ST, VC, VL, VI, VS, PF, IN, OR, OS, OI, OF, OD, OX, LL, LI, LD, LC, LT}
-use Rattle.rules.specs.WellFormed.{Stack, allow, complete, spans, given, checked, checkedAll}
-use Rattle.rules.proofs.Decoded.{Low, Ranged, AllRanged}
-use Rattle.rules.proofs.Shape.{Extra}
+use Rattle.rules.specs.Records.{Field, start, span, value, below, Form, Record, plain, laden}
+use Rattle.rules.specs.WellFormed.{Stack, allow, given, ranges, inRange, checked, checkedAll}
+use Rattle.rules.proofs.Forms.{bounded, bounds, loads, Within, within, within-count, Taken, taken}
+use Rattle.rules.proofs.Decoded.{Low, AllLow, Ranged, AllRanged}
+use Rattle.rules.proofs.Shape.{Values, Extra}
 
 abbrev pub Extras : List Record → Type 0
 Extras [] = Unit {0}
@@ -30,64 +31,67 @@ unfolding allow
 allow-true true o h = refl
 allow-true false o h = absurd (true≢false cc)
 
+not-true : (b : Bool) → not b ≡ true → b ≡ false
+not-true false h = refl
+not-true true h = absurd (true≢false (sym h))
+
 module _ (n : ℕ) (short : n ≤ 65536) where
-  spans-low : (k : Stack) (f t : ℕ) → spans n k f t ≡ true → Low f × Low t
-  unfolding spans
-  spans-low k f t h =
-      let (a, b) = and-split (leb (k .place) f && leb f t) (leb t n) h in
-      let (c, d) = and-split (leb (k .place) f) (leb f t) a in
-      (omega (arith, leb-true t n b, leb-true f t d), omega (arith, leb-true t n b))
-
-  spans-end : (k : Stack) (f t : ℕ) → spans n k f t ≡ true → t ≤ n
-  unfolding spans
-  spans-end k f t h = let (a, b) = and-split (leb (k .place) f && leb f t) (leb t n) h in leb-true t n b
-
-  -- a span and a number below m
-  coded : (k : Stack) (f t v m : ℕ) → spans n k f t && ltb v m ≡ true → m ≤ 99 → Low f × Low t × Low v
-  coded k f t v m h i =
-      let (s, l) = and-split (spans n k f t) (ltb v m) h in
-      let (a, b) = spans-low k f t s in
-      (a, b, omega (arith, ltb-true v m l))
+  within-low : (k : Stack) (hs : List Field) (vs : List ℕ) → bounded hs ≡ true → Values hs vs → Within n k hs vs → AllLow vs
+  unfolding bounded
+  within-low k [] [] b x h = tt
+  within-low k [] (v ∷ vs) b x h = absurd h
+  within-low k (start ∷ hs) [] b x h = absurd h
+  within-low k (start ∷ hs) (p ∷ vs) b x h = (omega (arith, h .1), within-low k hs vs b x (h .2))
+  within-low k (span ∷ hs) [] b x h = absurd h
+  within-low k (span ∷ hs) (f ∷ []) b x h = absurd h
+  within-low k (span ∷ hs) (f ∷ t ∷ vs) b x h = (omega (arith, h .1, h .2), (omega (arith, h .2), within-low k hs vs b x (h .3)))
+  within-low k (value ∷ hs) [] b x h = absurd h
+  within-low k (value ∷ hs) (v ∷ vs) b x h = (omega (arith, x .0), within-low k hs vs b (x .1) h)
+  within-low k (below m ∷ hs) [] b x h = absurd h
+  within-low k (below m ∷ hs) (v ∷ vs) b x h =
+      let (i, j) = and-split (leb m 4294967296) (bounded hs) b in
+      (omega (arith, h .0, leb-true m 4294967296 i), within-low k hs vs j x (h .1))
 
   module _ (k k′ : Stack) where
     ranged : (r : Record) → checked n k r ≡ some k′ → Extra r → Ranged r
-    unfolding checked
-    ranged (ST p) e x =
-        let (a, b) = and-split (complete k && leb (k .floor) p) (leb p n) (allow-true _ _ e) in
-        omega (arith, leb-true p n b)
-    ranged (VC f t v) e x = let (a, b) = spans-low k f t (given-true (spans n k f t) _ e) in (a, b, omega arith)
-    ranged (VL f t) e x = spans-low k f t (given-true (spans n k f t) _ e)
-    ranged (VI f t) e x = spans-low k f t (given-true (spans n k f t) _ e)
-    ranged (VS f t) e x = spans-low k f t (given-true (spans n k f t) _ e)
-    ranged (PF f t o) e x = coded k f t o 2 (given-true _ _ e) (omega arith)
-    ranged (IN f t o) e x = coded k f t o 4 (given-true _ _ e) (omega arith)
-    ranged (OR f t r) e x = coded k f t r 16 (given-true _ _ e) (omega arith)
-    ranged (OS f t g) e x = coded k f t g 4 (given-true _ _ e) (omega arith)
-    ranged (OI f t) e x = spans-low k f t (given-true (spans n k f t) _ e)
-    ranged (OF f t) e x = spans-low k f t (given-true (spans n k f t) _ e)
-    ranged (OD f t z g) e x =
-        let (s, i) = and-split (spans n k f t && leb z 2) (leb g 4) (given-true _ _ e) in
-        let (s′, j) = and-split (spans n k f t) (leb z 2) s in
-        let (a, b) = spans-low k f t s′ in (a, b, omega (arith, leb-true z 2 j), omega (arith, leb-true g 4 i))
-    ranged (OX f t c d z g) e x =
-        let (s, i) = and-split (spans n k f t && ltb c 8 && leb d 1 && leb z 2) (leb g 4) (given-true _ _ e) in
-        let (s₁, i₁) = and-split (spans n k f t && ltb c 8 && leb d 1) (leb z 2) s in
-        let (s₂, i₂) = and-split (spans n k f t && ltb c 8) (leb d 1) s₁ in
-        let (s₃, i₃) = and-split (spans n k f t) (ltb c 8) s₂ in
-        let (a, b) = spans-low k f t s₃ in (a, b, omega (arith, ltb-true c 8 i₃), omega (arith, leb-true d 1 i₂), omega (arith, leb-true z 2 i₁), omega (arith, leb-true g 4 i))
-    ranged (LL f t) e x = spans-low k f t (given-true (spans n k f t) _ e)
-    ranged (LI f t o m f′ t′) e x =
-        let (s, i) = and-split (spans n k f t && ltb o 99 && leb m 2) (spans n k f′ t′) (given-true _ _ e) in
-        let (s₁, i₁) = and-split (spans n k f t && ltb o 99) (leb m 2) s in
-        let (s₂, i₂) = and-split (spans n k f t) (ltb o 99) s₁ in
-        let (a, b) = spans-low k f t s₂ in
-        let (a′, b′) = spans-low k f′ t′ i in (a, b, omega (arith, ltb-true o 99 i₂), omega (arith, leb-true m 2 i₁), a′, b′)
-    ranged (LD f t d) e x =
-        let (s, i) = and-split (spans n k f t) (ltb 0 (length d)) (given-true _ _ e) in
-        let (a, b) = spans-low k f t s in
-        let l : t ≤ n = spans-end k f t s in (a, b, omega arith)
-    ranged (LC f t) e x = spans-low k f t (given-true (spans n k f t) _ e)
-    ranged LT e x = tt
+    unfolding inRange bounded
+    ranged (plain m vs) e x =
+        let q : Taken n k (plain m vs) k′ = taken n k (plain m vs) e in
+        let w : Form = q .described in
+        let (b, h) = within n k (not (w .laden)) (w .holds) vs (q .fits) in
+        record {
+          described = w;
+          so = q .so;
+          shaped = not-true (w .laden) b;
+          many = within-count n k (w .holds) vs h;
+          low = within-low k (w .holds) vs (bounds m w (q .so)) (rw (q .so) at x) h;
+          counted = omega arith;
+        }
+    ranged (laden m vs d) e x =
+        let q : Taken n k (laden m vs d) k′ = taken n k (laden m vs d) e in
+        let w : Form = q .described in
+        let (i, _) = and-split (ranges n k (w .laden) (w .holds) vs) (ltb 0 (length d)) (q .fits) in
+        let (b, h) = within n k (w .laden) (w .holds) vs i in
+        let s : w .holds ≡ span ∷ [] = loads m w (q .so) b in
+        let j : Within n k (span ∷ []) vs = rw s at h in
+        record {
+          described = w;
+          so = q .so;
+          shaped = b;
+          many = within-count n k (w .holds) vs h;
+          low = within-low k (span ∷ []) vs refl (no-values vs) j;
+          counted = few vs j x;
+        }
+      where
+        no-values : (vs : List ℕ) → Values (span ∷ []) vs
+        no-values [] = tt
+        no-values (f ∷ []) = tt
+        no-values (f ∷ t ∷ vs) = tt
+
+        few : (vs : List ℕ) → Within n k (span ∷ []) vs → length d ≤ 4 * getD vs 1 0 → Low (length d)
+        few [] j x = absurd j
+        few (f ∷ []) j x = absurd j
+        few (f ∷ t ∷ vs) j x = omega (arith, j .2)
 
   pub all-ranged : (k : Stack) (w : List Record) {top : Stack} → checkedAll n k w ≡ some top → Extras w → AllRanged w
   unfolding checkedAll

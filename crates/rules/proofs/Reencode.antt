@@ -1,21 +1,21 @@
 -- The records that bytes are decoded to have those bytes: a field's bytes come back from its value, and each record is decoded only from
 -- its own mark and its whole length. It is what lets the patch copy bytes.
 use mathlib.Core.Path.{_≡_, refl, sym, ap, ap₂, _∙_}
-use mathlib.Core.Bool.{Bool, true, false, _&&_, false≢true, true≢false}
+use mathlib.Core.Bool.{Bool, true, false, true≢false}
 use mathlib.Core.List.{List, [], _∷_, _++_, append-assoc}
 use mathlib.Core.Option.{Option, none, some}
 use Prim.Native.Nat.{ℕ, zero, suc, pred, _+_, _*_, _/_, _%_, _≤_, _<_}
-use Prim.Native.String.{String}
 use native.Mathlib.Omega.{arith}
-use native.Mathlib.Nat.{div-div-eq-div-mul}
-use lib.Dec.{eqb, leb}
+use native.Mathlib.Nat.{div-div-eq-div-mul, zero-add}
+use lib.Dec.{leb}
 use lib.ListN.{length, take, drop, take-append-drop, length-drop}
 use lib.Seq.{drop-drop, take-add, length-take-le}
-use borrow.Author.Tests.{leb-true, eqb-true}
-use Rattle.lexer.specs.Text.{if_then_else_, maybe, bytes, same}
-use Rattle.rules.specs.Records.{Record, ST, VC, VL, VI, VS, PF, IN, OR, OS, OI, OF, OD, OX, LL, LI, LD, LC, LT, field, fields, encode, listing}
-use Rattle.rules.specs.Decode.{Sized, value, nth, having, dataAt, recordOf, also, recordsFrom, decode}
-use Rattle.lexer.proofs.Branches.{and-split}
+use borrow.Author.Tests.{leb-true}
+use Rattle.lexer.specs.Text.{if_then_else_, maybe, same}
+use Rattle.rules.specs.Records.{Form, formOf, Record, plain, laden, markOf, cells, field, fields, encode, listing}
+use Rattle.rules.specs.Decode.{Sized, value, nth, nthsFrom, having, dataAt, formed, recordOf, also, recordsFrom, decode}
+use Rattle.rules.proofs.Forms.{same-true as letters-same}
+use Rattle.rules.proofs.Decoded.{Low, AllLow, Ranged}
 
 abbrev pub Octets : List ℕ → Type 0
 Octets [] = Unit {0}
@@ -48,11 +48,6 @@ field-value a b c d i j k l =
     let f₃ : v / 16777216 % 256 ≡ d = ap (λ (q : ℕ). q % 256) e₃ ∙ low-mod d 0 l in
     (λ q. f₀ q ∷ f₁ q ∷ f₂ q ∷ f₃ q ∷ [])
 
--- the fields from the i-th on, n of them
-unfoldable nums : ℕ → ℕ → List ℕ → List ℕ
-nums i zero s = []
-nums i (suc n) s = nth i s ∷ nums (suc i) n s
-
 four-bytes : (u : List ℕ) → 4 ≤ length u → Octets u → take 4 u ≡ field (value (take 4 u))
 four-bytes [] h o = absurd (omega arith)
 four-bytes (a ∷ []) h o = absurd (omega arith)
@@ -60,8 +55,8 @@ four-bytes (a ∷ b ∷ []) h o = absurd (omega arith)
 four-bytes (a ∷ b ∷ c ∷ []) h o = absurd (omega arith)
 four-bytes (a ∷ b ∷ c ∷ d ∷ r) h o = sym (field-value a b c d (o .0) (o .1 .0) (o .1 .1 .0) (o .1 .1 .1 .0))
 
-take-fields : (i n : ℕ) (s : List ℕ) → 4 * (i + n) ≤ length s → Octets s → take (4 * n) (drop (4 * i) s) ≡ fields (nums i n s)
-unfolding nums fields nth
+take-fields : (i n : ℕ) (s : List ℕ) → 4 * (i + n) ≤ length s → Octets s → take (4 * n) (drop (4 * i) s) ≡ fields (nthsFrom i n s)
+unfolding nthsFrom fields nth
 take-fields i zero s h o = refl
 take-fields i (suc n) s h o =
     let u : List ℕ = drop (4 * i) s in
@@ -69,7 +64,7 @@ take-fields i (suc n) s h o =
     let f : 4 * i + 4 ≡ 4 * suc i = omega arith in
     let g : drop 4 u ≡ drop (4 * suc i) s = drop-drop 4 (4 * i) s ∙ ap (λ (k : ℕ). drop k s) f in
     rw (e, take-add 4 (4 * n) u, g, take-fields (suc i) n s (omega arith) o)
-    (ap (λ (l : List ℕ). l ++ fields (nums (suc i) n s)) (four-bytes u (omega (arith, length-drop (4 * i) s)) (octets-drop (4 * i) s o)))
+    (ap (λ (l : List ℕ). l ++ fields (nthsFrom (suc i) n s)) (four-bytes u (omega (arith, length-drop (4 * i) s)) (octets-drop (4 * i) s o)))
 
 -- the bytes m and s begin with the record's
 pub record Encodes (m s : List ℕ) (z : Sized) : Type 0 where
@@ -78,91 +73,118 @@ pub record Encodes (m s : List ℕ) (z : Sized) : Type 0 where
   pub fits : size ≤ length s
   pub bytes′ : m ++ take size s ≡ encode (z .what)
 
-having-encodes : (n : ℕ) (m s : List ℕ) (r : Record) (z : Sized) → Octets s → having n s r ≡ some z → encode r ≡ m ++ fields (nums 0 n s) → Encodes m s z
-unfolding having
-having-encodes n m s r z o h e = go (leb (4 * n) (length s)) refl h
+pub same-true : (a b : List ℕ) → same a b ≡ true → a ≡ b
+same-true a b h = letters-same a b h
+
+-- a record of n fields, whose bytes they are
+plain-encodes : (n : ℕ) (m s : List ℕ) (z : Sized) → Octets s → having n s (plain m (nthsFrom 0 n s)) ≡ some z → Encodes m s z
+unfolding having encode
+plain-encodes n m s z o h = go (leb (4 * n) (length s)) refl h
   where
-    go : (b : Bool) → leb (4 * n) (length s) ≡ b → _≡_ {A = Option Sized} (if b then (some (record { what = r; size = 2 + 4 * n })) else none) (some z) → Encodes m s z
+    go : (b : Bool) → leb (4 * n) (length s) ≡ b → _≡_ {A = Option Sized} (if b then (some (record { what = plain m (nthsFrom 0 n s); size = 2 + 4 * n })) else none) (some z) → Encodes m s z
     go true i j =
-        let k : record { what = r; size = 2 + 4 * n } ≡ z = cc in
+        let k : record { what = plain m (nthsFrom 0 n s); size = 2 + 4 * n } ≡ z = cc in
         let l : 4 * n ≤ length s = leb-true (4 * n) (length s) i in
-        record { size = 4 * n; sized = sym (ap (λ (q : Sized). q .size) k); fits = l; bytes′ = ap (λ (q : List ℕ). m ++ q) (take-fields 0 n s (omega arith) o) ∙ sym e ∙ ap (λ (q : Sized). encode (q .what)) k }
+        record { size = 4 * n; sized = sym (ap (λ (q : Sized). q .size) k); fits = l; bytes′ = ap (λ (q : List ℕ). m ++ q) (take-fields 0 n s (omega arith) o) ∙ ap (λ (q : Sized). encode (q .what)) k }
     go false i j = absurd (true≢false cc)
 
-pub same-true : (a b : List ℕ) → same a b ≡ true → a ≡ b
-unfolding same
-same-true [] [] h = refl
-same-true [] (c ∷ t) h = absurd (false≢true h)
-same-true (c ∷ s) [] h = absurd (false≢true h)
-same-true (c ∷ s) (d ∷ t) h = go (eqb c d) refl h (λ e. same-true s t e)
+-- and one with a count and its data
+nths-more : (i n : ℕ) (s : List ℕ) → nthsFrom i (suc n) s ≡ nthsFrom i n s ++ (nth (i + n) s ∷ [])
+unfolding nthsFrom
+nths-more i zero s = let e : i ≡ i + 0 = omega arith in ap (λ (k : ℕ). nth k s ∷ []) e
+nths-more i (suc n) s = let e : suc i + n ≡ i + suc n = omega arith in ap (λ (l : List ℕ). nth i s ∷ l) (nths-more (suc i) n s ∙ ap (λ (k : ℕ). nthsFrom (suc i) n s ++ (nth k s ∷ [])) e)
+
+laden-encodes : (n : ℕ) (m s : List ℕ) (z : Sized) → Octets s → dataAt n m s ≡ some z → Encodes m s z
+unfolding dataAt encode
+laden-encodes n m s z o h = go (leb (4 * n + 4 + nth n s) (length s)) refl h
   where
-    go : (b : Bool) → eqb c d ≡ b → (if b then (same s t) else false) ≡ true → (same s t ≡ true → s ≡ t) → c ∷ s ≡ d ∷ t
-    go true e i again = ap₂ _∷_ (eqb-true c d e) (again i)
-    go false e i again = absurd (false≢true i)
-
-fourteen : (n : ℕ) → 14 + n ≡ 2 + (12 + n)
-fourteen n = omega arith
-
-data-bytes : (f t n : ℕ) (d : List ℕ) → length d ≡ n → bytes "LD" ++ (fields (f ∷ t ∷ n ∷ []) ++ d) ≡ encode (LD f t d)
-unfolding encode bytes
-data-bytes f t n d h = rw h
-
-data-encodes : (m s : List ℕ) (z : Sized) → Octets s → dataAt s ≡ some z → m ≡ bytes "LD" → Encodes m s z
-unfolding dataAt nums
-data-encodes m s z o h e = go (leb (12 + nth 2 s) (length s)) refl h
-  where
-    go : (b : Bool) → leb (12 + nth 2 s) (length s) ≡ b
-        → _≡_ {A = Option Sized} (if b then (some (record { what = LD (nth 0 s) (nth 1 s) (take (nth 2 s) (drop 12 s)); size = 14 + nth 2 s })) else none) (some z) → Encodes m s z
+    go : (b : Bool) → leb (4 * n + 4 + nth n s) (length s) ≡ b
+        → _≡_ {A = Option Sized} (if b then (some (record { what = laden m (nthsFrom 0 n s) (take (nth n s) (drop (4 * n + 4) s)); size = 2 + (4 * n + 4 + nth n s) })) else none) (some z) → Encodes m s z
     go true i j =
-        let n : ℕ = nth 2 s in
-        let k : record { what = LD (nth 0 s) (nth 1 s) (take n (drop 12 s)); size = 14 + n } ≡ z = cc in
-        let l : 12 + n ≤ length s = leb-true (12 + n) (length s) i in
+        let c : ℕ = nth n s in
+        let h : ℕ = 4 * n + 4 in
+        let d : List ℕ = take c (drop h s) in
+        let k : record { what = laden m (nthsFrom 0 n s) d; size = 2 + (h + c) } ≡ z = cc in
+        let l : h + c ≤ length s = leb-true (h + c) (length s) i in
+        let e : 4 * suc n ≡ h = omega arith in
+        let f : length d ≡ c = length-take-le c (drop h s) (omega (arith, length-drop h s)) in
+        let g : take h s ≡ fields (nthsFrom 0 n s ++ (length d ∷ [])) =
+        ap (λ (q : ℕ). take q s) (sym e) ∙ take-fields 0 (suc n) s (omega arith) o ∙ ap fields (nths-more 0 n s ∙ rw (f, zero-add n)) in
         record {
-          size = 12 + n;
-          sized = sym (ap (λ (q : Sized). q .size) k) ∙ fourteen n;
+          size = h + c;
+          sized = sym (ap (λ (q : Sized). q .size) k);
           fits = l;
-          bytes′ = ap₂ _++_ e (take-add 12 n s ∙ ap (λ (q : List ℕ). q ++ take n (drop 12 s)) (take-fields 0 3 s (omega arith) o)) ∙ data-bytes (nth 0 s) (nth 1 s) n (take n (drop 12 s)) (length-take-le n (drop 12 s) (omega (arith, length-drop 12 s))) ∙ ap (λ (q : Sized). encode (q .what)) k;
+          bytes′ = ap (λ (q : List ℕ). m ++ q) (take-add h c s ∙ ap (λ (q : List ℕ). q ++ d) g) ∙ sym (append-assoc m (fields (nthsFrom 0 n s ++ (length d ∷ []))) d) ∙ ap (λ (q : Sized). encode (q .what)) k;
         }
     go false i j = absurd (true≢false cc)
 
-pick : {P : Type 0} (b : Bool) (x y : Option Sized) (z : Sized) → (b ≡ true → x ≡ some z → P) → (b ≡ false → y ≡ some z → P) → (if b then x else y) ≡ some z → P
-pick true x y z p q h = p refl h
-pick false x y z p q h = q refl h
+record-encodes : (m s : List ℕ) (z : Sized) → Octets s → recordOf m s ≡ some z → Encodes m s z
+unfolding recordOf formed
+record-encodes m s z o h = go (formOf m) h
+  where
+    by : (b : Bool) (n : ℕ) → (if b then (dataAt n m s) else (having n s (plain m (nthsFrom 0 n s)))) ≡ some z → Encodes m s z
+    by true n h = laden-encodes n m s z o h
+    by false n h = plain-encodes n m s z o h
 
-module _ (m s : List ℕ) (z : Sized) (o : Octets s) where
-  -- a record with the mark a and n fields
-  fielded : (a : String) (n : ℕ) (r : Record) → encode r ≡ bytes a ++ fields (nums 0 n s) → same m (bytes a) ≡ true → having n s r ≡ some z → Encodes m s z
-  fielded a n r e i h = having-encodes n m s r z o h (e ∙ ap (λ (l : List ℕ). l ++ fields (nums 0 n s)) (sym (same-true m (bytes a) i)))
+    go : (x : Option Form) → maybe x none (formed m s) ≡ some z → Encodes m s z
+    go none h = absurd (true≢false cc)
+    go (some w) h = by (w .laden) (length (cells (w .holds))) h
 
-  -- LT, whose fields have to be 0 0
-  times-encodes : same m (bytes "LT") && eqb (nth 0 s) 0 && eqb (nth 1 s) 0 ≡ true → having 2 s LT ≡ some z → Encodes m s z
-  unfolding encode nums
-  times-encodes e h =
-      let (a, b) = and-split (same m (bytes "LT") && eqb (nth 0 s) 0) (eqb (nth 1 s) 0) e in
-      let (c, d) = and-split (same m (bytes "LT")) (eqb (nth 0 s) 0) a in
-      fielded "LT" 2 LT (λ i. bytes "LT" ++ fields (sym (eqb-true (nth 0 s) 0 d) i ∷ sym (eqb-true (nth 1 s) 0 b) i ∷ [])) c h
+-- A record that is read has a description, and each field fits its four bytes.
+length-nths : (i n : ℕ) (s : List ℕ) → length (nthsFrom i n s) ≡ n
+unfolding nthsFrom
+length-nths i zero s = refl
+length-nths i (suc n) s = ap suc (length-nths (suc i) n s)
 
-  record-encodes : recordOf m s ≡ some z → Encodes m s z
-  unfolding recordOf encode nums
-  record-encodes =
-      pick (same m (bytes "ST")) _ _ z (fielded "ST" 1 (ST (nth 0 s)) refl) λ _.
-      pick (same m (bytes "VC")) _ _ z (fielded "VC" 3 (VC (nth 0 s) (nth 1 s) (nth 2 s)) refl) λ _.
-      pick (same m (bytes "VL")) _ _ z (fielded "VL" 2 (VL (nth 0 s) (nth 1 s)) refl) λ _.
-      pick (same m (bytes "VI")) _ _ z (fielded "VI" 2 (VI (nth 0 s) (nth 1 s)) refl) λ _.
-      pick (same m (bytes "VS")) _ _ z (fielded "VS" 2 (VS (nth 0 s) (nth 1 s)) refl) λ _.
-      pick (same m (bytes "PF")) _ _ z (fielded "PF" 3 (PF (nth 0 s) (nth 1 s) (nth 2 s)) refl) λ _.
-      pick (same m (bytes "IN")) _ _ z (fielded "IN" 3 (IN (nth 0 s) (nth 1 s) (nth 2 s)) refl) λ _.
-      pick (same m (bytes "OR")) _ _ z (fielded "OR" 3 (OR (nth 0 s) (nth 1 s) (nth 2 s)) refl) λ _.
-      pick (same m (bytes "OS")) _ _ z (fielded "OS" 3 (OS (nth 0 s) (nth 1 s) (nth 2 s)) refl) λ _.
-      pick (same m (bytes "OI")) _ _ z (fielded "OI" 2 (OI (nth 0 s) (nth 1 s)) refl) λ _.
-      pick (same m (bytes "OF")) _ _ z (fielded "OF" 2 (OF (nth 0 s) (nth 1 s)) refl) λ _.
-      pick (same m (bytes "OD")) _ _ z (fielded "OD" 4 (OD (nth 0 s) (nth 1 s) (nth 2 s) (nth 3 s)) refl) λ _.
-      pick (same m (bytes "OX")) _ _ z (fielded "OX" 6 (OX (nth 0 s) (nth 1 s) (nth 2 s) (nth 3 s) (nth 4 s) (nth 5 s)) refl) λ _.
-      pick (same m (bytes "LL")) _ _ z (fielded "LL" 2 (LL (nth 0 s) (nth 1 s)) refl) λ _.
-      pick (same m (bytes "LI")) _ _ z (fielded "LI" 6 (LI (nth 0 s) (nth 1 s) (nth 2 s) (nth 3 s) (nth 4 s) (nth 5 s)) refl) λ _.
-      pick (same m (bytes "LD")) _ _ z (λ e h. data-encodes m s z o h (same-true m (bytes "LD") e)) λ _.
-      pick (same m (bytes "LC")) _ _ z (fielded "LC" 2 (LC (nth 0 s) (nth 1 s)) refl) λ _.
-      pick (same m (bytes "LT") && eqb (nth 0 s) 0 && eqb (nth 1 s) 0) _ _ z times-encodes λ _ h. absurd (true≢false cc)
+low-four : (u : List ℕ) → Octets u → Low (value (take 4 u))
+unfolding value
+low-four [] o = omega arith
+low-four (a ∷ []) o = omega (arith, o .0)
+low-four (a ∷ b ∷ []) o = omega (arith, o .0, o .1 .0)
+low-four (a ∷ b ∷ c ∷ []) o = omega (arith, o .0, o .1 .0, o .1 .1 .0)
+low-four (a ∷ b ∷ c ∷ d ∷ r) o = omega (arith, o .0, o .1 .0, o .1 .1 .0, o .1 .1 .1 .0)
+
+low-nth : (i : ℕ) (s : List ℕ) → Octets s → Low (nth i s)
+unfolding nth
+low-nth i s o = low-four (drop (4 * i) s) (octets-drop (4 * i) s o)
+
+low-nths : (i n : ℕ) (s : List ℕ) → Octets s → AllLow (nthsFrom i n s)
+unfolding nthsFrom
+low-nths i zero s o = tt
+low-nths i (suc n) s o = (low-nth i s o, low-nths (suc i) n s o)
+
+pub record-ranged : (m s : List ℕ) (z : Sized) → Octets s → recordOf m s ≡ some z → Ranged (z .what) × (markOf (z .what) ≡ m)
+unfolding recordOf formed having dataAt
+record-ranged m s z o h = go (formOf m) refl h
+  where
+    plainly : (w : Form) → formOf m ≡ some w → w .laden ≡ false → let n : ℕ = length (cells (w .holds)) in
+        (b : Bool) → _≡_ {A = Option Sized} (if b then (some (record { what = plain m (nthsFrom 0 n s); size = 2 + 4 * n })) else none) (some z) → Ranged (z .what) × (markOf (z .what) ≡ m)
+    plainly w f i true j =
+        let n : ℕ = length (cells (w .holds)) in
+        let e : plain m (nthsFrom 0 n s) ≡ z .what = ap (λ (q : Option Sized). maybe q (plain m []) (λ y. y .what)) j in
+        rw (← e) (record { described = w; so = f; shaped = i; many = length-nths 0 n s; low = low-nths 0 n s o; counted = omega arith }, refl)
+    plainly w f i false j = absurd (true≢false cc)
+
+    fully : (w : Form) → formOf m ≡ some w → w .laden ≡ true → let n : ℕ = length (cells (w .holds)) in
+        (b : Bool) → leb (4 * n + 4 + nth n s) (length s) ≡ b
+        → _≡_ {A = Option Sized} (if b then (some (record { what = laden m (nthsFrom 0 n s) (take (nth n s) (drop (4 * n + 4) s)); size = 2 + (4 * n + 4 + nth n s) })) else none) (some z)
+        → Ranged (z .what) × (markOf (z .what) ≡ m)
+    fully w f i true k j =
+        let n : ℕ = length (cells (w .holds)) in
+        let d : List ℕ = take (nth n s) (drop (4 * n + 4) s) in
+        let e : laden m (nthsFrom 0 n s) d ≡ z .what = ap (λ (q : Option Sized). maybe q (plain m []) (λ y. y .what)) j in
+        let l : length d ≡ nth n s = length-take-le (nth n s) (drop (4 * n + 4) s) (omega (arith, leb-true (4 * n + 4 + nth n s) (length s) k, length-drop (4 * n + 4) s)) in
+        rw (← e) (record { described = w; so = f; shaped = i; many = length-nths 0 n s; low = low-nths 0 n s o; counted = omega (arith, low-nth n s o) }, refl)
+    fully w f i false k j = absurd (true≢false cc)
+
+    by : (w : Form) → formOf m ≡ some w → (b : Bool) → w .laden ≡ b → let n : ℕ = length (cells (w .holds)) in
+        (if b then (dataAt n m s) else (having n s (plain m (nthsFrom 0 n s)))) ≡ some z → Ranged (z .what) × (markOf (z .what) ≡ m)
+    by w f true i j = let n : ℕ = length (cells (w .holds)) in fully w f i (leb (4 * n + 4 + nth n s) (length s)) refl j
+    by w f false i j = plainly w f i (leb (4 * length (cells (w .holds))) (length s)) j
+
+    go : (x : Option Form) → formOf m ≡ x → maybe x none (formed m s) ≡ some z → Ranged (z .what) × (markOf (z .what) ≡ m)
+    go none f i = absurd (true≢false cc)
+    go (some w) f i = by w f (w .laden) refl i
 
 pub also-some : (r : Record) (o : Option (List Record)) {rs : List Record} → also r o ≡ some rs → (q : List Record) × (o ≡ some q) × (rs ≡ r ∷ q)
 unfolding also

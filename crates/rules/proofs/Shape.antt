@@ -10,12 +10,12 @@ use Prim.Native.String.{String}
 use native.Mathlib.Omega.{arith}
 use native.Mathlib.Nat.{le-refl, le-trans}
 use lib.Dec.{eqb, ltb}
-use lib.ListN.{length, take, drop, length-append, length-take, take-append-drop}
+use lib.ListN.{length, getD, take, drop, length-append, length-take, take-append-drop}
 use borrow.Author.Tests.{le-leb, lt-ltb, eq-eqb}
 use Rattle.lexer.specs.Text.{if_then_else_, maybe, is, bytes, same}
 use Rattle.rules.specs.Lexemes.{Kind, word, number, quoted, mark, newline, blank, comment, invalid, end, bad, Lexeme, nameIn, operationIn}
 use Rattle.names.specs.Names.{registers, segments, sizes, directives, named, operationNamed, placeFrom}
-use Rattle.rules.specs.Records.{Record, ST, VC, VL, VI, VS, PF, IN, OR, OS, OI, OF, OD, OX, LL, LI, LD, LC, LT, field}
+use Rattle.rules.specs.Records.{Field, start, span, value, below, formOf, Record, plain, laden, VC, VL, OD, OX, field}
 use Rattle.rules.specs.Reader.{at, Reader, Line, _>>=_, _>>_, return, write, refuse, step, next, ahead, kind, passed, isMark, isLineEnd, expect}
 use Rattle.rules.specs.Expressions.{operatorOf, leftLevel, rightLevel, prefixLevel, character, atomOf, atom, primary, infixes, expr, expression}
 use Rattle.rules.specs.Operands.{immediateOrFar, alone, isIndex, isBase, paired, plusIndex, second, registersAhead, displacement, close, override, isWord, isNumber, memory, operandSized, operand, Operands, operands}
@@ -26,26 +26,23 @@ use Rattle.rules.proofs.Table.{Proper}
 use Rattle.rules.proofs.TokenKinds.{asked}
 use Rattle.rules.proofs.Hoare.{nil, Post, holds, Triple, bind, andThen, whether, perhaps, returns, refuses, writes, before, behind, known, derive, arrive-post, attempts, askAhead, askKind, askPassed, askLeft, here-fails}
 
--- What a record holds besides what the check tests.
+-- A value fits the 31 bits of one that is not negative.
+abbrev pub Values : List Field → List ℕ → Type 0
+Values [] vs = Unit {0}
+Values (start ∷ hs) [] = Unit {0}
+Values (start ∷ hs) (p ∷ vs) = Values hs vs
+Values (span ∷ hs) [] = Unit {0}
+Values (span ∷ hs) (f ∷ []) = Unit {0}
+Values (span ∷ hs) (f ∷ t ∷ vs) = Values hs vs
+Values (value ∷ hs) [] = Unit {0}
+Values (value ∷ hs) (v ∷ vs) = (v ≤ 2147483647) × Values hs vs
+Values (below b ∷ hs) [] = Unit {0}
+Values (below b ∷ hs) (v ∷ vs) = Values hs vs
+
+-- What a record holds besides what the check tests: its values fit, and its data are no more than four to a byte of the source.
 abbrev pub Extra : Record → Type 0
-Extra (ST p) = Unit {0}
-Extra (VC f t v) = v ≤ 2147483647
-Extra (VL f t) = Unit {0}
-Extra (VI f t) = Unit {0}
-Extra (VS f t) = Unit {0}
-Extra (PF f t o) = Unit {0}
-Extra (IN f t o) = Unit {0}
-Extra (OR f t r) = Unit {0}
-Extra (OS f t s) = Unit {0}
-Extra (OI f t) = Unit {0}
-Extra (OF f t) = Unit {0}
-Extra (OD f t z s) = Unit {0}
-Extra (OX f t e d z s) = Unit {0}
-Extra (LL f t) = Unit {0}
-Extra (LI f t o n f′ t′) = Unit {0}
-Extra (LD f t d) = length d ≤ 4 * t
-Extra (LC f t) = Unit {0}
-Extra LT = Unit {0}
+Extra (plain m vs) = maybe {B = Type 0} (formOf m) (Unit {0}) (λ w. Values (w .holds) vs)
+Extra (laden m vs d) = length d ≤ 4 * getD vs 1 0
 
 -- No number of a list is above m.
 abbrev pub UpTo : ℕ → List ℕ → Type 0
@@ -368,12 +365,12 @@ module _ (n hi p0 : ℕ) (rest : List Lexeme) where
     unfolding character checked statementFrom
     character-on i false s x h f = here-fails 16
     character-on i true [] x h f = here-fails 17
-    character-on i true (c ∷ []) x h f = one i x f (VC (x .from) (x .to) c) refl (h .0) refl
+    character-on i true (c ∷ []) x h f = one i x f (VC (x .from) (x .to) c) refl (h .0, tt) refl
     character-on i true (c ∷ d ∷ s) x h f = here-fails 17
 
     atomOf-on : {b c : ℕ} (i : ℕ) (k : Kind) (x : Lexeme) → x .kind ≡ k → Facts n hi p0 b c x → Triple (Checks n) (On b (x .to) (C i)) (atomOf k x) (λ _. On (x .to) 0 (C (suc i)))
     unfolding atomOf checked statementFrom
-    atomOf-on i (number v) x e f = let z : Holds (number v) (x .from) (x .to) = rw e at (f .sound .holds) in one i x f (VC (x .from) (x .to) v) refl z refl
+    atomOf-on i (number v) x e f = let z : Holds (number v) (x .from) (x .to) = rw e at (f .sound .holds) in one i x f (VC (x .from) (x .to) v) refl (z, tt) refl
     atomOf-on i (quoted closed s) x e f = let z : Holds (quoted closed s) (x .from) (x .to) = rw e at (f .sound .holds) in character-on i closed s x (z .1) f
     atomOf-on i (word w) x e f = one i x f (VL (x .from) (x .to)) refl tt refl
     atomOf-on i (mark c) x e f = whether (is "$" c) (λ _. andThen nexts (λ _. kindThen _ λ y g. whether (isMark "$" (y .kind))
@@ -467,9 +464,9 @@ module _ (n hi p0 : ℕ) (rest : List Lexeme) where
         where
           coded : {b : ℕ} (e : Option ℕ) → Coded e → (t : ℕ) → f ≤ t → t ≤ n → Triple (Checks n) (On b 0 (C has)) (maybe e (if eqb has 0 then (refuse (at 32 f t)) else (write (OD f t size segment))) (λ m. write (OX f t m has size segment))) (λ _. On b 0 D)
           coded none q t j l = whether (eqb has 0) (λ _. refuses _) (λ o. checks _ refl tt
-              (rw (span-true (C has) f t (ctx .places has) u j l, le-leb size 2 z, le-leb segment 4 g) (ap (λ (m : ℕ). toOperand 1 (C m)) (one-has has h o) ∙ single)))
+              (rw (span-true (C has) f t (ctx .places has) u j l, lt-ltb size 3 (omega arith), lt-ltb segment 5 (omega arith)) (ap (λ (m : ℕ). toOperand 1 (C m)) (one-has has h o) ∙ single)))
           coded (some m) q t j l = checks _ refl tt
-              (rw (span-true (C has) f t (ctx .places has) u j l, lt-ltb m 8 q, le-leb has 1 h, le-leb size 2 z, le-leb segment 4 g) (operand-of has h))
+              (rw (span-true (C has) f t (ctx .places has) u j l, lt-ltb m 8 q, lt-ltb has 2 (omega arith), lt-ltb size 3 (omega arith), lt-ltb segment 5 (omega arith)) (operand-of has h))
 
       override-on : {b c : ℕ} → Triple (Checks n) (On b c (C 0)) override (λ z k s. (z ≤ 4) × On b 0 (C 0) k s)
       unfolding override

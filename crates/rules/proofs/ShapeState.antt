@@ -13,7 +13,7 @@ use Rattle.lexer.specs.Text.{if_then_else_}
 use Rattle.rules.specs.Lexemes.{Kind, Lexeme, nameIn, operationIn}
 use Rattle.names.specs.Names.{directives}
 use Rattle.rules.specs.Records.{Record, ST, LT}
-use Rattle.rules.specs.Reader.{Refusal, at, Answer, done, refused, Reader, Line, after, thence, _>>=_, _>>_, return, write, arrive, ahead, kind, passed, isLineEnd}
+use Rattle.rules.specs.Reader.{Cause, at, Answer, done, refused, Reader, Line, after, thence, _>>=_, _>>_, return, write, arrive, ahead, kind, passed, isLineEnd}
 use Rattle.rules.specs.Operands.{isWord}
 use Rattle.rules.specs.Statements.{Profile, Row, State, over, inLine, firstOf, enter, stepRow, nextRow, lineEnd, skip, skipLines, passing, rep, repne, instruction, constant, someData, dataOf, line, content, times, begun, statement}
 use Rattle.rules.proofs.Append.{after-nil}
@@ -128,7 +128,7 @@ module _ (n hi p0 : ℕ) where
           span-true n hi p0 [] (open′ p0 e (o .count) 0) (x .from) t (place-any e (o .count)) u (le-trans v j) l,
           span-true n hi p0 [] (open′ p0 e (o .count) 0) (o .from) (o .to) (place-any e (o .count)) (q .start) (q .ordered) (q .inside),
           lt-ltb op 99 h,
-          le-leb (o .count) 2 (q .few),
+          lt-ltb (o .count) 3 (omega (arith, q .few)),
         ) (to-line p0 0 (o .count) e e zero-le (omega arith)))))
 
     constant-on : {c : ℕ} (e : ℕ) → Triple (Checks n) (OnS (x .to) c (open′ p0 e 0 0)) (constant x) (λ _. OnS (x .to) 0 (shut p0 e))
@@ -168,7 +168,7 @@ module _ (n hi p0 : ℕ) where
           λ op h. passing-on (instruction-on x (f .start) (f .sound .ordered) (f .inside) e op (operation-small (profile .table) proper (x .kind) op h)))
 
       content-on : {b : ℕ} (e : ℕ) (x : Lexeme) → Triple (Checks n) (OnS b 0 (open′ p0 (suc e) 0 0)) (content profile times′ x) (λ _. OnS b 0 (shut p0 e))
-      unfolding content checked statementFrom
+      unfolding content checked statementFrom given
       content-on {b} e x = kindS _ λ y f. behind (λ _ k s h. on-less n hi p0 (flat (s .below)) (le-trans (f .later) (f .sound .ordered)) (le-refl 0) h)
           (andThen (whether (isLineEnd (y .kind)) (λ _. refuses _) (λ _. line-on (suc e))) (λ _. checksS LT refl tt (closes-eq n p0 e)))
 
@@ -195,11 +195,11 @@ module _ (n hi : ℕ) where
   pub data Stated (lo : ℕ) (κ : Stack) : Answer State Bool → Type 0 where
     began : {q lo′ : ℕ} {v : List Record} {s : State} {κ₁ κ′ : Stack} → lo ≤ q → q < hi → q < lo′ → checked n κ (ST q) ≡ some κ₁ → Run (Checks n) κ₁ v κ′ → Ready lo′ κ′ → OnS n hi 0 lo′ 0 κ′ κ′ s → Stated lo κ (done (ST q ∷ v) true s)
     ended : {s : State} → Stated lo κ (done [] false s)
-    failed : {r : Refusal} → Stated lo κ (refused r)
+    failed : {r : Cause} → Stated lo κ (refused r)
 
   pub data Skips (lo : ℕ) (κ : Stack) : Answer State (Unit {0}) → Type 0 where
     skips : {s : State} → OnS n hi 0 lo 0 κ κ s → Skips lo κ (done [] tt s)
-    broke : {r : Refusal} → Skips lo κ (refused r)
+    broke : {r : Cause} → Skips lo κ (refused r)
 
   skip-skips : (lo : ℕ) (κ : Stack) (l : Line) (rs : List Row) → On n hi 0 (flat rs) lo 0 κ κ l → Skips lo κ (skip l rs)
   unfolding skip
@@ -218,7 +218,7 @@ module _ (n hi : ℕ) where
   started lo q t κ κ₁ i j l e fails = failed
 
   starts : (κ : Stack) (q : ℕ) → complete κ ≡ true → κ .floor ≤ q → q ≤ n → checked n κ (ST q) ≡ some (open′ q 0 0 0)
-  unfolding checked allow open′
+  unfolding checked given allow open′
   starts κ q h i j = rw (h, le-leb (κ .floor) q i, le-leb q n j)
 
   stated-plain : {lo : ℕ} {κ : Stack} {p : Answer State Bool} → Stated lo κ p → Stated lo κ (after [] p)

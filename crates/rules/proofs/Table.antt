@@ -10,7 +10,7 @@ use lib.ListN.{length, length-map, drop, getD}
 use borrow.Author.Tests.{leb-true, ltb-true}
 use Rattle.lexer.specs.Text.{if_then_else_, lower, same, openText}
 use Rattle.lexer.proofs.Branches.{and-split}
-use Rattle.names.specs.Names.{spelling, operationFrom, operationNamed}
+use Rattle.names.specs.Names.{rowsIn, spelling, operationFrom, operationNamed}
 use Rattle.names.specs.Table.{spellings, row, rowsOf, operations}
 
 -- The numbers are those of operations, and a spelling has two letters or more.
@@ -49,13 +49,13 @@ proper-from (suc n) w table r p h =
         (omega (arith, ltb-true (getD table 7 0) 99 a), omega (arith, leb-true 2 (length (spelling table)) b, same-length w (spelling table) e))
     go a b false e i again = again i
 
-proper-rows : properRows 117 operations ≡ true
+proper-rows : properRows (rowsIn operations) operations ≡ true
 unfolding openText properRows spelling spellings row rowsOf operations
 proper-rows = refl
 
 pub proper : Proper operations
 unfolding operationNamed
 proper = record {
-  small = λ w r h. proper-from 117 (map lower w) operations r proper-rows h .0;
-  long = λ w r h. omega (arith, proper-from 117 (map lower w) operations r proper-rows h .1, length-map w lower);
+  small = λ w r h. proper-from (rowsIn operations) (map lower w) operations r proper-rows h .0;
+  long = λ w r h. omega (arith, proper-from (rowsIn operations) (map lower w) operations r proper-rows h .1, length-map w lower);
 }

@@ -1,7 +1,7 @@
 -- The values of a listing: numbers are at most 2147483647, and a character is a byte.
 use mathlib.Core.List.{List, [], _∷_, _++_}
 use Prim.Native.Nat.{ℕ, _≤_}
-use Rattle.rules.specs.Records.{Record, VC}
+use Rattle.rules.specs.Records.{formOf, Record, VC}
 use Rattle.rules.specs.Statements.{present, reading}
 use Rattle.rules.specs.Claims.{ValuesFit}
 use Rattle.rules.proofs.Table.{proper}
@@ -11,7 +11,8 @@ use Rattle.rules.proofs.Listing.{gives-fits}
 use Rattle.rules.proofs.Calls.{Accepted, accepted-call}
 
 value-small : (before behind : List Record) (f t v : ℕ) → Extras (before ++ (VC f t v ∷ behind)) → v ≤ 2147483647
-value-small [] behind f t v h = h .0
+unfolding formOf
+value-small [] behind f t v h = h .0 .0
 value-small (r ∷ rs) behind f t v h = value-small rs behind f t v (h .1)
 
 pub values-fit : ValuesFit

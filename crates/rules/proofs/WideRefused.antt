@@ -13,7 +13,7 @@ use Rattle.lexer.specs.Text.{is}
 use Rattle.rules.specs.Lexemes.{Kind, number, quoted, mark, Lexeme, tokens, nameIn, operationIn}
 use Rattle.names.specs.Names.{directives}
 use Rattle.rules.specs.Records.{Record, field}
-use Rattle.rules.specs.Reader.{Refusal, at, Answer, done, refused, Reader, Line, after, thence, _>>=_, _>>_, return, refusedAs, arrive, step, next, ahead, left, kind, refuseHere, isLineEnd}
+use Rattle.rules.specs.Reader.{Cause, at, Answer, done, refused, Reader, Line, after, thence, _>>=_, _>>_, return, refusedAs, arrive, step, next, ahead, left, kind, refuseHere, isLineEnd}
 use Rattle.rules.specs.Expressions.{expression}
 use Rattle.rules.specs.Statements.{Profile, fitting, State, largest, fits, over, inLine, skipLines, passing, literalOf, literals, dataOf, line, content, times, begun, statement, rows, reading, outcome}
 use Rattle.rules.specs.Calls.{listed, fullRead}
@@ -54,7 +54,7 @@ next-head l h = ap (λ (q : List Lexeme). step q l) (h .form) ∙ rw (h .sound) 
 -- Literals, behind which the number stands.
 module _ (width value : ℕ) (least : 1 ≤ width) (most : width ≤ 2) (wide : Lexeme) (rest : List Lexeme) (isNumber : wide .kind ≡ number value)
     (noBytes : (bs : List ℕ) → ¬ (BytesOf width value bs)) where
-  abbrev Wide : Refusal
+  abbrev Wide : Cause
   Wide = at 60 (wide .from) (wide .to)
 
   head : {xs : List Lexeme} {ds : List ℕ} → Says width xs ds → Head (xs ++ (wide ∷ rest))
@@ -157,7 +157,7 @@ module _ (F : Profile) where
   times-at n s = after-nil (passing (inLine expression >> (skipLines >> content F (times F n) (s .line .here))) s)
       ∙ passing-then (inLine expression) skipLines (content F (times F n) (s .line .here)) s
 
-  module _ (X : List Lexeme) (c : Refusal) where
+  module _ (X : List Lexeme) (c : Cause) where
     -- a content that is refused, and the statement that it stands in
     record Stopped : Type 0 where
       state : State

@@ -1,4 +1,4 @@
--- The calls, told the rule of a token: to say what a request of document 02 changes of what is read, and what it leaves.
+-- The calls, told the rule of a token: to say what a rule of RULES 14 changes of what is read, and what it leaves.
 use mathlib.Core.Path.{_≡_}
 use mathlib.Core.Bool.{Bool, false, _||_}
 use mathlib.Core.List.{List, [], _∷_}

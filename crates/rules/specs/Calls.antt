@@ -1,8 +1,8 @@
--- Whole calls: what each entry point answers, and what each lent buffer holds afterwards. Document 01, "Refusals and what they leave".
+-- Whole calls: what each entry point answers, and what each lent buffer holds afterwards. RULES 9, 11.2.
 use mathlib.Core.Bool.{Bool, true, false}
 use mathlib.Core.List.{List, [], _∷_, _++_}
 use mathlib.Core.Option.{Option, none, some}
-use Prim.Native.Nat.{ℕ, suc, _+_, _*_}
+use Prim.Native.Nat.{ℕ, suc, _+_, _*_, _≤_}
 use lib.Dec.{ltb}
 use lib.ListN.{length, drop}
 use Rattle.lexer.specs.Text.{if_then_else_, maybe}
@@ -12,15 +12,15 @@ use Rattle.lexer.specs.declared.TokenRead.{TokenRead}
 use Rattle.lexer.specs.declared.TokenRead.the-variants.{Read, Refused}
 use Rattle.rules.specs.Lexemes.{tokensFrom}
 use Rattle.rules.specs.Records.{Record, listing}
-use Rattle.rules.specs.Reader.{Refusal, at, nowhere, Answer, done, refused, arrive}
+use Rattle.rules.specs.Reader.{Cause, at, nowhere, Answer, done, refused, arrive}
 use Rattle.rules.specs.Statements.{Profile, Row, State, enter, rows, statement, Outcome, accepted, refusal, reading, openStatements}
 
 -- A call's answer: what it gives, or a refusal.
 pub data Result (A : Type 0) : Type 0 where
   gives : A → Result A
-  refuses : Refusal → Result A
+  refuses : Cause → Result A
 
-unfoldable pub unless : {A : Type 0} → Bool → Refusal → Result A → Result A
+unfoldable pub unless : {A : Type 0} → Bool → Cause → Result A → Result A
 unless b r a = if b then (refuses r) else a
 
 -- 1: above 65,536 bytes.
@@ -29,6 +29,10 @@ mostBytes = 65536
 
 unfoldable pub tooLong : List ℕ → Bool
 tooLong source = ltb mostBytes (length source)
+
+-- A source that is not refused for it.
+abbrev pub Short : List ℕ → Type 0
+Short source = length source ≤ 65536
 
 -- 2, at the first byte above 127; `foreign` finds its place among those from place p on.
 unfoldable pub foreign : ℕ → List ℕ → Option ℕ
@@ -106,5 +110,6 @@ unfoldable pub statementBuffer : Profile → List ℕ → ℕ → List ℕ → L
 statementBuffer profile source p buffer = leaves foundBytes (statementCall profile source p (length buffer)) buffer
 
 unfoldable pub openCalls : Unit {0}
-unfolding openStatements unless mostBytes tooLong foreign ascii lent lentAt inRoom overwrite leaves tokenCall listed fullRead enough fullBuffer oneFound oneRead statementCall foundBytes statementBuffer
+unfolding openStatements unless mostBytes tooLong foreign ascii lent lentAt inRoom overwrite leaves tokenCall listed fullRead enough fullBuffer oneFound
+    oneRead statementCall foundBytes statementBuffer
 openCalls = tt

@@ -7,7 +7,7 @@ use lib.IntN.{ℤ}
 use lib.ListN.{length}
 use Rattle.rules.specs.Lexemes.{tokensFrom}
 use Rattle.rules.specs.Records.{Record, VC, moveRecord, places}
-use Rattle.rules.specs.Reader.{Line, Refusal, valuesOf}
+use Rattle.rules.specs.Reader.{Line, Cause, numbersOf}
 use Rattle.rules.specs.Expressions.{infixes, expr}
 use Rattle.rules.specs.Grammar.{LineOf}
 use Rattle.rules.specs.Operands.{operandSized}
@@ -30,12 +30,12 @@ pub record CountersSuffice (profile : Profile) : Type 0 where
 
 -- No refusal has the number 0, so an answer of numbers in which it is 0 is no refusal's.
 pub record NumbersTell (profile : Profile) : Type 0 where
-  pub ofToken : (source : List ℕ) (p : ℕ) (c : Refusal) → tokenCall source p ≡ refuses c → ¬ (valuesOf c .number ≡ 0)
-  pub ofStatement : (source : List ℕ) (p room : ℕ) (c : Refusal) → statementCall profile source p room ≡ refuses c → ¬ (valuesOf c .number ≡ 0)
-  pub ofFullRead : (source : List ℕ) (room : ℕ) (c : Refusal) → fullRead profile source room ≡ refuses c → ¬ (valuesOf c .number ≡ 0)
-  pub ofPatch : (old bytes : List ℕ) (a : ℕ) (new : List ℕ) (roomS roomL : ℕ) (c : Refusal) → patch profile old bytes a new roomS roomL ≡ refuses c
-      → ¬ (valuesOf c .number ≡ 0)
-  pub ofEvaluate : (op : ℕ) (a b : ℤ) (c : Refusal) → evaluate op a b ≡ refuses c → ¬ (valuesOf c .number ≡ 0)
+  pub ofToken : (source : List ℕ) (p : ℕ) (c : Cause) → tokenCall source p ≡ refuses c → ¬ (numbersOf c .number ≡ 0)
+  pub ofStatement : (source : List ℕ) (p room : ℕ) (c : Cause) → statementCall profile source p room ≡ refuses c → ¬ (numbersOf c .number ≡ 0)
+  pub ofFullRead : (source : List ℕ) (room : ℕ) (c : Cause) → fullRead profile source room ≡ refuses c → ¬ (numbersOf c .number ≡ 0)
+  pub ofPatch : (old bytes : List ℕ) (a : ℕ) (new : List ℕ) (roomS roomL : ℕ) (c : Cause) → patch profile old bytes a new roomS roomL ≡ refuses c
+      → ¬ (numbersOf c .number ≡ 0)
+  pub ofEvaluate : (op : ℕ) (a b : ℤ) (c : Cause) → evaluate op a b ≡ refuses c → ¬ (numbersOf c .number ≡ 0)
 
 -- Something holds of each element of a list.
 abbrev pub Each : {A : Type 0} → (A → Type 0) → List A → Type 0

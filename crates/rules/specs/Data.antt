@@ -1,4 +1,4 @@
--- Data lines: what they say, the numbers that are too wide for them (60), and what is claimed of both. Document 02, Ask 1.
+-- Data lines: what they say, the numbers that are too wide for them (60), and what is claimed of both. RULES 7.6.
 use mathlib.Core.Path.{_≡_}
 use mathlib.Core.Bool.{true}
 use mathlib.Core.List.{List, [], _∷_, _++_}

@@ -1,12 +1,11 @@
--- A listing's bytes as records: what `encode` writes, read back. Document 01, "The listing".
-use mathlib.Core.Bool.{_&&_}
+-- A listing's bytes as records: what `encode` writes, read back. RULES 8.1, 8.5.
 use mathlib.Core.List.{List, [], _∷_}
 use mathlib.Core.Option.{Option, none, some}
 use Prim.Native.Nat.{ℕ, zero, suc, pred, _+_, _*_}
-use lib.Dec.{eqb, leb}
+use lib.Dec.{leb}
 use lib.ListN.{length, take, drop}
-use Rattle.lexer.specs.Text.{if_then_else_, maybe, bytes, same}
-use Rattle.rules.specs.Records.{Record, ST, VC, VL, VI, VS, PF, IN, OR, OS, OI, OF, OD, OX, LL, LI, LD, LC, LT}
+use Rattle.lexer.specs.Text.{if_then_else_, maybe}
+use Rattle.rules.specs.Records.{Form, formOf, Record, plain, laden, cells}
 
 -- A record, and the number of its bytes.
 pub record Sized : Type 0 where
@@ -21,36 +20,31 @@ value (c ∷ cs) = c + 256 * value cs
 unfoldable pub nth : ℕ → List ℕ → ℕ
 nth i s = value (take 4 (drop (4 * i) s))
 
+-- The n fields from the i-th on.
+unfoldable pub nthsFrom : ℕ → ℕ → List ℕ → List ℕ
+nthsFrom i zero s = []
+nthsFrom i (suc n) s = nth i s ∷ nthsFrom (suc i) n s
+
 -- A record of n fields, whose bytes behind the mark are at the head of s, if there are as many.
 unfoldable pub having : ℕ → List ℕ → Record → Option Sized
 having n s r = if leb (4 * n) (length s) then (some (record { what = r; size = 2 + 4 * n })) else none
 
--- LD's count is bounded by the bytes that are there.
-unfoldable pub dataAt : List ℕ → Option Sized
-dataAt s = if leb (12 + nth 2 s) (length s) then (some (record { what = LD (nth 0 s) (nth 1 s) (take (nth 2 s) (drop 12 s)); size = 14 + nth 2 s })) else none
+-- One of n fields, their count, and as many bytes, which is bounded by the bytes that are there.
+unfoldable pub dataAt : ℕ → List ℕ → List ℕ → Option Sized
+dataAt n m s =
+    let c : ℕ = nth n s in
+    let h : ℕ = 4 * n + 4 in
+    if leb (h + c) (length s) then (some (record { what = laden m (nthsFrom 0 n s) (take c (drop h s)); size = 2 + (h + c) })) else none
 
--- The record with the mark m, whose other bytes are at the head of s. LT's fields are 0 0.
+-- The record of a form, with the mark m, whose other bytes are at the head of s.
+unfoldable pub formed : List ℕ → List ℕ → Form → Option Sized
+unfolding cells nthsFrom
+formed m s w = let n : ℕ = length (cells (w .holds)) in if w .laden then (dataAt n m s) else (having n s (plain m (nthsFrom 0 n s)))
+
+-- The record with the mark m.
 unfoldable pub recordOf : List ℕ → List ℕ → Option Sized
-recordOf m s =
-    if same m (bytes "ST") then (having 1 s (ST (nth 0 s)))
-    else if same m (bytes "VC") then (having 3 s (VC (nth 0 s) (nth 1 s) (nth 2 s)))
-    else if same m (bytes "VL") then (having 2 s (VL (nth 0 s) (nth 1 s)))
-    else if same m (bytes "VI") then (having 2 s (VI (nth 0 s) (nth 1 s)))
-    else if same m (bytes "VS") then (having 2 s (VS (nth 0 s) (nth 1 s)))
-    else if same m (bytes "PF") then (having 3 s (PF (nth 0 s) (nth 1 s) (nth 2 s)))
-    else if same m (bytes "IN") then (having 3 s (IN (nth 0 s) (nth 1 s) (nth 2 s)))
-    else if same m (bytes "OR") then (having 3 s (OR (nth 0 s) (nth 1 s) (nth 2 s)))
-    else if same m (bytes "OS") then (having 3 s (OS (nth 0 s) (nth 1 s) (nth 2 s)))
-    else if same m (bytes "OI") then (having 2 s (OI (nth 0 s) (nth 1 s)))
-    else if same m (bytes "OF") then (having 2 s (OF (nth 0 s) (nth 1 s)))
-    else if same m (bytes "OD") then (having 4 s (OD (nth 0 s) (nth 1 s) (nth 2 s) (nth 3 s)))
-    else if same m (bytes "OX") then (having 6 s (OX (nth 0 s) (nth 1 s) (nth 2 s) (nth 3 s) (nth 4 s) (nth 5 s)))
-    else if same m (bytes "LL") then (having 2 s (LL (nth 0 s) (nth 1 s)))
-    else if same m (bytes "LI") then (having 6 s (LI (nth 0 s) (nth 1 s) (nth 2 s) (nth 3 s) (nth 4 s) (nth 5 s)))
-    else if same m (bytes "LD") then (dataAt s)
-    else if same m (bytes "LC") then (having 2 s (LC (nth 0 s) (nth 1 s)))
-    else if same m (bytes "LT") && eqb (nth 0 s) 0 && eqb (nth 1 s) 0 then (having 2 s LT)
-    else none
+unfolding formOf formed
+recordOf m s = maybe (formOf m) none (formed m s)
 
 unfoldable pub also : Record → Option (List Record) → Option (List Record)
 also r none = none
@@ -67,5 +61,5 @@ unfoldable pub decode : List ℕ → Option (List Record)
 decode b = recordsFrom 0 b
 
 unfoldable pub openDecode : Unit {0}
-unfolding value nth having dataAt recordOf also recordsFrom decode
+unfolding value nth nthsFrom having dataAt formed recordOf also recordsFrom decode
 openDecode = tt

@@ -1,4 +1,4 @@
--- `evaluate`: the exact sum, difference or product, or the quotient truncated toward zero. Document 01, "Operands and statements".
+-- `evaluate`: the exact sum, difference or product, or the quotient truncated toward zero. RULES 5.5.
 use Prim.Native.Nat.{ℕ}
 use lib.Dec.{eqb, ltb}
 use lib.IntN.{ℤ, natAbs, _+ℤ_, _-ℤ_, _*ℤ_}

@@ -1,4 +1,4 @@
--- The grammar of expressions by levels, and the claim that an expression has one reading. Document 01, "Expressions":
+-- The grammar of expressions by levels, and the claim that an expression has one reading. RULES 5.2:
 --
 --   sum      =  product  or  sum + product  or  sum - product
 --   product  =  operand  or  product * operand  or  product / operand

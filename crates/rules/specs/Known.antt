@@ -1,4 +1,4 @@
--- Document 01's samples of the rules, "Job file samples": K1 to K12 in one table with one claim, K5, K10 and K11 as document 02 has them; and the
+-- Samples of the rules, RULES 15: K1 to K12 in one table with one claim; and the
 -- further ones.
 use mathlib.Core.Path.{_≡_, refl}
 use mathlib.Core.Bool.{Bool, true, false}
@@ -61,7 +61,7 @@ pub known : Agree samples
 unfolding openCalls spellings row rowsOf operations samples read wanted Agree
 known = (refl, (refl, (refl, (refl, (refl, (refl, (refl, (refl, (refl, (refl, (refl, (refl, tt))))))))))))
 
--- the further samples of document 01, and rules that no K has
+-- the samples of RULES 15.2 and 15.6, and rules that no K has
 unfoldable pub more : List Sample
 more =
     "" reads gives []
@@ -80,7 +80,16 @@ more =
     ∷ "times 2 ;c" reads refuses (at 34 0 5)
     ∷ "times times+5" reads refuses (at 34 0 5)
     ∷ "times 2\n;c\n \n" reads refuses (at 34 0 5)
-    ∷ "mov" reads gives (ST 0 ∷ LI 0 3 0 0 3 3 ∷ [])
+    ∷ []
+
+pub more-known : Agree more
+unfolding openCalls spellings row rowsOf operations more read wanted Agree
+more-known = (refl, (refl, (refl, (refl, (refl, (refl, (refl, (refl, (refl, (refl, (refl, (refl, (refl, (refl, tt))))))))))))))
+
+-- ends of lines and of sources
+unfoldable pub ends : List Sample
+ends =
+    "mov" reads gives (ST 0 ∷ LI 0 3 0 0 3 3 ∷ [])
     ∷ "equ" reads refuses (at 21 3 3)
     ∷ "equ\n" reads refuses (at 21 3 4)
     ∷ "equ 1 2" reads refuses (at 10 6 7)
@@ -91,11 +100,11 @@ more =
     ST 0 ∷ LI 0 3 46 0 3 3 ∷ ST 4 ∷ LI 4 9 48 0 9 9 ∷ ST 10 ∷ VL 15 16 ∷ OI 15 16 ∷ LI 10 16 64 1 15 16 ∷ [])
     ∷ []
 
-pub more-known : Agree more
-unfolding openCalls spellings row rowsOf operations more read wanted Agree
-more-known = (refl, (refl, (refl, (refl, (refl, (refl, (refl, (refl, (refl, (refl, (refl, (refl, (refl, (refl, (refl, (refl, (refl, (refl, (refl, (refl, (refl, (refl, tt))))))))))))))))))))))
+pub ends-known : Agree ends
+unfolding openCalls spellings row rowsOf operations ends read wanted Agree
+ends-known = (refl, (refl, (refl, (refl, (refl, (refl, (refl, (refl, tt))))))))
 
--- Numbers in data lines, document 02, Ask 1: the largest that fit and the first that don't (60), however they are written; 60 against what
+-- Numbers in data lines, RULES 15.5: the largest that fit and the first that don't (60), however they are written; 60 against what
 -- stands before the number and behind it; and numbers that are no data.
 unfoldable pub counts : List Sample
 counts =
@@ -123,7 +132,7 @@ pub counts-known : Agree counts
 unfolding openCalls spellings row rowsOf operations counts read wanted Agree
 counts-known = (refl, (refl, (refl, (refl, (refl, (refl, (refl, (refl, (refl, (refl, (refl, (refl, (refl, (refl, (refl, (refl, (refl, tt)))))))))))))))))
 
--- Names with dots as labels, document 02, Ask 2.
+-- Names with dots as labels, RULES 15.3.
 unfoldable pub dots : List Sample
 dots =
     "w12.a equ 5" reads gives (ST 0 ∷ LL 0 5 ∷ ST 6 ∷ VC 10 11 5 ∷ LC 6 11 ∷ [])
@@ -202,7 +211,7 @@ pub before-a-dot : (fullBy plainToken present (bytes "a.b") 100 ≡ refuses (at 
 unfolding openCalls openDots fullBy statementBy spellings row rowsOf operations
 before-a-dot = (refl, refl, refl)
 
--- The letter behind the digits, document 02, Ask 4: o, O, h or H takes the whole run.
+-- The letter behind the digits, RULES 15.4: o, O, h or H takes the whole run.
 unfoldable pub letters : List Sample
 letters =
     "equ 0adh" reads gives (ST 0 ∷ VC 4 8 173 ∷ LC 0 8 ∷ [])

@@ -1,4 +1,4 @@
--- The letter behind the digits: what it leaves of what is read. Document 02, Ask 4.
+-- The letter behind the digits: what it leaves of what is read. RULES 2.5, 14.2.
 use Rattle.lexer.specs.Letters.{letterFollows, lastFirstToken}
 use Rattle.rules.specs.Statements.{Profile}
 use Rattle.rules.specs.ByRule.{SameWithout}

@@ -1,4 +1,4 @@
--- The tokens of a source that the reader looks at, each in its place and with its text. Document 01, "Tokens".
+-- The tokens of a source that the reader looks at, each in its place and with its text. RULES 2.1, 4.1.
 use mathlib.Core.Bool.{Bool, true, false}
 use mathlib.Core.List.{List, [], _∷_}
 use mathlib.Core.Option.{Option, none, some}
@@ -12,7 +12,8 @@ use Rattle.lexer.specs.Tokens.{tokenAt, sizeOf, openTokens}
 use Rattle.lexer.specs.declared.LiteralKind.{LiteralKind}
 use Rattle.lexer.specs.declared.LiteralKind.the-variants.{Number, Text}
 use Rattle.lexer.specs.declared.PunctuationKind.{PunctuationKind}
-use Rattle.lexer.specs.declared.PunctuationKind.the-variants.{CloseBracket, CloseParenthesis, Colon, Comma, Dollar, Dot, ForwardSlash, Minus, OpenBracket, OpenParenthesis, Plus, Star}
+use Rattle.lexer.specs.declared.PunctuationKind.the-variants.{CloseBracket, CloseParenthesis, Colon, Comma, Dollar, Dot, ForwardSlash, Minus}
+use Rattle.lexer.specs.declared.PunctuationKind.the-variants.{OpenBracket, OpenParenthesis, Plus, Star}
 use Rattle.lexer.specs.declared.Token.{Token}
 use Rattle.lexer.specs.declared.Token.the-variants.{Whitespace, Identifier, Literal, Punctuation, Comment, NewLine, EndOfFile, Invalid}
 use Rattle.lexer.specs.declared.Fault.{Fault}
@@ -134,5 +135,6 @@ unfoldable pub operationIn : List ℕ → Kind → Option ℕ
 operationIn table k = maybe (textOf k) none (operationNamed table)
 
 unfoldable pub openLexemes : Unit {0}
-unfolding openText openTokens isGap lexeme put tokensBy tokens textOf nameIn operationIn named operationNamed registers segments sizes directives placeFrom spelling operationFrom
+unfolding openText openTokens isGap lexeme put tokensBy tokens textOf nameIn operationIn named operationNamed registers segments sizes directives
+    placeFrom spelling operationFrom
 openLexemes = tt

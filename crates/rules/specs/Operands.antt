@@ -1,4 +1,4 @@
--- Operands. Document 01, "Operands and statements".
+-- Operands. RULES 6.
 use mathlib.Core.Bool.{Bool, true, false, _||_}
 use mathlib.Core.Option.{Option, none, some}
 use Prim.Native.Nat.{ℕ, zero, suc, _+_}
@@ -7,7 +7,8 @@ use Rattle.lexer.specs.Text.{if_then_else_, maybe}
 use Rattle.rules.specs.Lexemes.{Kind, word, number, quoted, mark, newline, blank, comment, invalid, end, bad, textOf, nameIn}
 use Rattle.names.specs.Names.{registers, segments, sizes}
 use Rattle.rules.specs.Records.{OR, OS, OI, OF, OD, OX}
-use Rattle.rules.specs.Reader.{Reader, Line, at, encoding, _>>=_, _>>_, return, write, refuse, attempt, next, ahead, kind, passed, left, refuseHere, isMark, isLineEnd, expect}
+use Rattle.rules.specs.Reader.{Reader, Line, at, encoding, _>>=_, _>>_, return, write, refuse, attempt, next, ahead, kind, passed, left}
+use Rattle.rules.specs.Reader.{refuseHere, isMark, isLineEnd, expect}
 use Rattle.rules.specs.Expressions.{expression, openExpressions}
 
 -- An immediate is an expression; `a:b` is far.
@@ -38,7 +39,7 @@ si = 14
 abbrev pub di : ℕ
 di = 15
 
--- The encodings, as `IndirectEncoding` in document 003 numbers them: si, di, bp or bx alone; bx or bp with si or di.
+-- The encodings of RULES 6.6: si, di, bp or bx alone; bx or bp with si or di.
 unfoldable pub alone : ℕ → ℕ
 alone r = if eqb r si then 4 else if eqb r di then 5 else if eqb r bp then 6 else 7
 
@@ -179,5 +180,6 @@ operands = do
             else (refuseHere 11))
 
 unfoldable pub openOperands : Unit {0}
-unfolding openExpressions immediateOrFar alone isIndex isBase paired plusIndex second registersAhead displacement close override isWord isNumber memory operandSized operand operands
+unfolding openExpressions immediateOrFar alone isIndex isBase paired plusIndex second registersAhead displacement close override isWord isNumber memory
+    operandSized operand operands
 openOperands = tt

@@ -1,4 +1,4 @@
--- The patch. Document 01, "The patch".
+-- The patch. RULES 10.
 use mathlib.Core.Bool.{Bool, true, false, not, _&&_, _||_}
 use mathlib.Core.List.{List, [], _∷_, _++_, map}
 use mathlib.Core.Option.{Option, none, some}
@@ -8,8 +8,8 @@ use lib.ListN.{length, take, drop, getD}
 use Rattle.lexer.specs.Text.{if_then_else_, maybe, is, among, run}
 use Rattle.lexer.specs.Tokens.{inComment}
 use Rattle.rules.specs.Lexemes.{Lexeme, tokensFrom}
-use Rattle.rules.specs.Records.{Record, ST, VC, VL, VI, VS, PF, IN, OR, OS, OI, OF, OD, OX, LL, LI, LD, LC, LT, moveRecord, listing}
-use Rattle.rules.specs.Reader.{nowhere, valuesOf, isLineEnd}
+use Rattle.rules.specs.Records.{Role, aStatement, aTimes, anExpression, anOperand, aLine, formOf, Record, markOf, fieldsOf, moveRecord, listing}
+use Rattle.rules.specs.Reader.{nowhere, numbersOf, isLineEnd}
 use Rattle.rules.specs.Statements.{Profile, Outcome, accepted, refusal, readFrom}
 use Rattle.rules.specs.Calls.{Result, gives, refuses, unless, tooLong, ascii, fullRead, enough, inRoom, leaves, openCalls}
 use Rattle.rules.specs.Decode.{decode, openDecode}
@@ -54,7 +54,7 @@ nearest (l ∷ ls) = maybe (nearest ls) (if bareLine l then none else (some l)) 
 -- A line leaves a `times` without its content where the full read, given that line alone as its source, refuses it with 34.
 unfoldable pub isOpen : Result (List Record) → Bool
 isOpen (gives w) = false
-isOpen (refuses r) = eqb (valuesOf r .number) 34
+isOpen (refuses r) = eqb (numbersOf r .number) 34
 
 unfoldable pub leavesOpen : Profile → List ℕ → Bool
 leavesOpen profile l = isOpen (fullRead profile l (enough l))
@@ -65,25 +65,16 @@ openLine profile s a new =
     leavesOpen profile (lineAt s a) || (leavesOpen profile new || maybe (nearest (linesFrom [] (above s a))) false (leavesOpen profile))
 
 -- The records of the statements with place below a, and those from the first statement with place a or above on.
+abbrev pub beginsFrom : ℕ → Role → List ℕ → Bool
+beginsFrom a aStatement vs = leb a (getD vs 0 0)
+beginsFrom a aTimes vs = false
+beginsFrom a (anExpression m) vs = false
+beginsFrom a (anOperand m) vs = false
+beginsFrom a (aLine m o) vs = false
+
 unfoldable pub statementFrom : ℕ → Record → Bool
-statementFrom a (ST p) = leb a p
-statementFrom a (VC f t v) = false
-statementFrom a (VL f t) = false
-statementFrom a (VI f t) = false
-statementFrom a (VS f t) = false
-statementFrom a (PF f t o) = false
-statementFrom a (IN f t o) = false
-statementFrom a (OR f t r) = false
-statementFrom a (OS f t s) = false
-statementFrom a (OI f t) = false
-statementFrom a (OF f t) = false
-statementFrom a (OD f t z s) = false
-statementFrom a (OX f t e d z s) = false
-statementFrom a (LL f t) = false
-statementFrom a (LI f t o n f′ t′) = false
-statementFrom a (LD f t d) = false
-statementFrom a (LC f t) = false
-statementFrom a LT = false
+unfolding formOf
+statementFrom a r = maybe (formOf (markOf r)) false λ w. beginsFrom a (w .role) (fieldsOf r)
 
 unfoldable pub recordsBelow : ℕ → List Record → List Record
 recordsBelow a [] = []
@@ -136,5 +127,6 @@ unfoldable pub patchListing : Result Edit → List ℕ → List ℕ
 patchListing r buffer = leaves (λ e. listing (e .records)) r buffer
 
 unfoldable pub openPatch : Unit {0}
-unfolding openCalls openDecode openWellFormed beginsLine above lineAt behind edited linesFrom allEnds bareLine nearest isOpen leavesOpen openLine statementFrom recordsBelow recordsOn exchanged placedIn reread patched patch patchSource patchListing
+unfolding openCalls openDecode openWellFormed beginsLine above lineAt behind edited linesFrom allEnds bareLine nearest isOpen leavesOpen openLine
+    statementFrom recordsBelow recordsOn exchanged placedIn reread patched patch patchSource patchListing
 openPatch = tt

@@ -1,5 +1,5 @@
 -- Readers: what reads from a state, writes records and gives a value, or refuses. A line is read token by token, with one token ahead.
--- Document 01, "Refusals and what they leave".
+-- RULES 4, 11.
 use mathlib.Core.Bool.{Bool, true, false}
 use mathlib.Core.List.{List, [], _∷_, _++_}
 use mathlib.Core.Option.{Option, none, some}
@@ -9,30 +9,25 @@ use lib.ListN.{length}
 use Rattle.lexer.specs.Text.{if_then_else_, maybe, is}
 use Rattle.rules.specs.Lexemes.{Kind, word, number, quoted, mark, newline, blank, comment, invalid, end, bad, Lexeme, openLexemes}
 use Rattle.rules.specs.Records.{Record}
+use Rattle.refusals.specs.declared.Refusal.{Refusal}
+use Rattle.refusals.specs.Refusals.{spanned}
 
--- A refusal: its number with the span; with none (0..0); 25, with the span and two registers.
-pub data Refusal : Type 0 where
-  at : (number f t : ℕ) → Refusal
-  nowhere : (number : ℕ) → Refusal
-  encoding : (f t first second : ℕ) → Refusal
+-- Why is refused: a number with the span; with none (0..0); 25, with the span and two registers.
+pub data Cause : Type 0 where
+  at : (number f t : ℕ) → Cause
+  nowhere : (number : ℕ) → Cause
+  encoding : (f t first second : ℕ) → Cause
 
--- The five values of a refusal: number, span, and two registers. A register not there is 255; both are 255 at every refusal but 25.
-pub record Values : Type 0 where
-  pub number : ℕ
-  pub from : ℕ
-  pub to : ℕ
-  pub first : ℕ
-  pub second : ℕ
-
-abbrev pub valuesOf : Refusal → Values
-valuesOf (at n f t) = record { number = n; from = f; to = t; first = 255; second = 255 }
-valuesOf (nowhere n) = record { number = n; from = 0; to = 0; first = 255; second = 255 }
-valuesOf (encoding f t a b) = record { number = 25; from = f; to = t; first = a; second = b }
+-- Its five values. Only 25 has registers.
+abbrev pub numbersOf : Cause → Refusal
+numbersOf (at n f t) = spanned n f t
+numbersOf (nowhere n) = spanned n 0 0
+numbersOf (encoding f t a b) = record { number = 25; from = f; to = t; first = a; second = b }
 
 -- An answer: the records written, the value, the next state; or a refusal.
 pub data Answer (S A : Type 0) : Type 0 where
   done : List Record → A → S → Answer S A
-  refused : Refusal → Answer S A
+  refused : Cause → Answer S A
 
 abbrev pub Reader : Type 0 → Type 0 → Type 0
 Reader S A = S → Answer S A
@@ -60,7 +55,7 @@ return a s = done [] a s
 unfoldable pub write : {S : Type 0} → Record → Reader S (Unit {0})
 write r s = done (r ∷ []) tt s
 
-unfoldable pub refuse : {S A : Type 0} → Refusal → Reader S A
+unfoldable pub refuse : {S A : Type 0} → Cause → Reader S A
 refuse r s = refused r
 
 -- A reader that may find nothing: then the old state is taken up again, and a is the answer.
@@ -150,5 +145,6 @@ unfoldable pub expect : Char → ℕ → Reader Line (Unit {0})
 expect a n = kind >>= λ k. if isMark a k then next else refuseHere n
 
 unfoldable pub openReader : Unit {0}
-unfolding openLexemes after thence _>>=_ _>>_ return write refuse orBack attempt refusedAs arrive step next ahead kind passed left refuseHere isMark isLineEnd expect
+unfolding openLexemes after thence _>>=_ _>>_ return write refuse orBack attempt refusedAs arrive step next ahead kind passed left refuseHere isMark
+    isLineEnd expect
 openReader = tt

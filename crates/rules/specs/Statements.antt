@@ -1,7 +1,7 @@
--- Statements, and the reading of a source. Document 01, "Operands and statements".
+-- Statements, and the reading of a source. RULES 7.
 use mathlib.Core.Bool.{Bool, true, false, _||_}
 use mathlib.Core.List.{List, [], _∷_, _++_}
-use Prim.Native.Nat.{ℕ, zero, suc, _+_}
+use Prim.Native.Nat.{ℕ, zero, suc}
 use lib.Dec.{eqb, leb, ltb}
 use lib.ListN.{length, take}
 use Rattle.lexer.specs.Text.{if_then_else_, maybe, is}
@@ -9,7 +9,8 @@ use Rattle.rules.specs.Lexemes.{Kind, word, number, quoted, mark, newlin
 use Rattle.names.specs.Names.{directives}
 use Rattle.names.specs.Table.{operations}
 use Rattle.rules.specs.Records.{Record, ST, LL, LI, LD, LC, LT, field, openRecords}
-use Rattle.rules.specs.Reader.{Reader, Answer, done, refused, Line, Refusal, at, nowhere, _>>=_, _>>_, return, write, refuse, arrive, next, ahead, kind, passed, left, refuseHere, isMark, isLineEnd}
+use Rattle.rules.specs.Reader.{Reader, Answer, done, refused, Line, Cause, at, nowhere, _>>=_, _>>_, return, write, refuse, arrive, next, ahead}
+use Rattle.rules.specs.Reader.{kind, passed, left, refuseHere, isMark, isLineEnd}
 use Rattle.rules.specs.Expressions.{expression}
 use Rattle.rules.specs.Operands.{operands, isWord, openOperands}
 
@@ -18,7 +19,7 @@ pub record Profile : Type 0 where
   pub table : List ℕ
   pub takes : ℕ → ℕ → Bool
 
--- The largest number that a data line's word takes: `db` gives a number one byte, `dw` two. Document 02, Ask 1: in `db` a number above 255, and
+-- The largest number that a data line's word takes: `db` gives a number one byte, `dw` two. RULES 7.6: in `db` a number above 255, and
 -- in `dw` a number above 65,535, must be refused.
 unfoldable pub largest : ℕ → ℕ
 largest width = if eqb width 1 then 255 else 65535
@@ -33,7 +34,7 @@ fitting table = record { table = table; takes = fits }
 abbrev pub present : Profile
 present = fitting operations
 
--- The reading of document 01 alone, and of the Rust: any number is taken, and its low bytes are kept. No call reads so; it is here to be
+-- The reading of the base rules (RULES 14.3), and of the original: any number is taken, and its low bytes are kept. No call reads so; it is here to be
 -- compared with (Data: OnlyTooWide).
 abbrev pub cutting : List ℕ → Profile
 cutting table = record { table = table; takes = λ width v. true }
@@ -171,7 +172,7 @@ dataOf takes x width = do
 -- What a reading comes to: the records, or the first refusal.
 pub data Outcome : Type 0 where
   accepted : List Record → Outcome
-  refusal : Refusal → Outcome
+  refusal : Cause → Outcome
 
 unfoldable pub outcome : Answer State (Unit {0}) → Outcome
 outcome (done w a s) = accepted w
@@ -233,5 +234,6 @@ module _ (profile : Profile) where
   reading source = readFrom 0 source
 
 unfoldable pub openStatements : Unit {0}
-unfolding openOperands largest fits push rows over inLine firstOf enter stepRow nextRow lineEnd skip skipLines passing label instruction constant literalOf literals someData dataOf line content times begun statement statements outcome readRows readFrom reading openRecords
+unfolding openOperands largest fits push rows over inLine firstOf enter stepRow nextRow lineEnd skip skipLines passing label instruction constant
+    literalOf literals someData dataOf line content times begun statement statements outcome readRows readFrom reading openRecords
 openStatements = tt

@@ -1,13 +1,14 @@
--- Well-formed listings (41). Document 01, "The listing": every field in range, children present as in reverse Polish, a line record ending
+-- Well-formed listings (41). RULES 8.5: every field in range, children present as in reverse Polish, a line record ending
 -- each statement, places strictly rising, and place ≤ f ≤ t ≤ source length except LT's.
 use mathlib.Core.Bool.{Bool, true, false, not, _&&_}
 use mathlib.Core.List.{List, [], _∷_}
 use mathlib.Core.Option.{Option, none, some}
 use Prim.Native.Nat.{ℕ, suc, _+_, _-_}
 use lib.Dec.{eqb, leb, ltb}
-use lib.ListN.{length}
+use lib.ListN.{length, getD}
 use Rattle.lexer.specs.Text.{if_then_else_, maybe}
-use Rattle.rules.specs.Records.{Record, ST, VC, VL, VI, VS, PF, IN, OR, OS, OI, OF, OD, OX, LL, LI, LD, LC, LT}
+use Rattle.rules.specs.Records.{Field, start, span, value, below, Count, fixed, told, Role, aStatement, aTimes, anExpression, anOperand, aLine}
+use Rattle.rules.specs.Records.{Form, formOf, Record, plain, laden, markOf, fieldsOf}
 
 -- What stands of a statement: expressions, operands above them, expressions above those; and whether a line record has closed it.
 pub record Stack : Type 0 where
@@ -50,27 +51,44 @@ spans n k f t = leb (k .place) f && leb f t && leb t n
 unfoldable pub given : Bool → Option Stack → Option Stack
 given b k = if b then k else none
 
+-- Every field in range, if those before are (b), for a source of length n: places of statements rise.
+unfoldable pub ranges : ℕ → Stack → Bool → List Field → List ℕ → Bool
+ranges n k b [] [] = b
+ranges n k b [] (v ∷ vs) = false
+ranges n k b (start ∷ hs) [] = false
+ranges n k b (start ∷ hs) (p ∷ vs) = ranges n k (b && (leb (k .floor) p && leb p n)) hs vs
+ranges n k b (span ∷ hs) [] = false
+ranges n k b (span ∷ hs) (f ∷ []) = false
+ranges n k b (span ∷ hs) (f ∷ t ∷ vs) = ranges n k (b && spans n k f t) hs vs
+ranges n k b (value ∷ hs) [] = false
+ranges n k b (value ∷ hs) (v ∷ vs) = ranges n k b hs vs
+ranges n k b (below m ∷ hs) [] = false
+ranges n k b (below m ∷ hs) (v ∷ vs) = ranges n k (b && ltb v m) hs vs
+
+-- The count of data is 1 or more.
+unfoldable pub inRange : ℕ → Stack → Form → Record → Bool
+unfolding ranges
+inRange n k w (plain m vs) = ranges n k (not (w .laden)) (w .holds) vs
+inRange n k w (laden m vs d) = ranges n k (w .laden) (w .holds) vs && ltb 0 (length d)
+
+abbrev pub counted : Count → List ℕ → ℕ
+counted (fixed n) vs = n
+counted (told i) vs = getD vs i 0
+
+-- What a record with the fields vs makes of the stack; `times` stands behind its content's line record.
+unfoldable pub makes : Stack → Role → List ℕ → Option Stack
+makes k aStatement vs =
+    allow (complete k) (record { place = getD vs 0 0; floor = suc (getD vs 0 0); before = 0; operands = 0; above = 0; closed = false })
+makes k (anExpression m) vs = toExpression m k
+makes k (anOperand m) vs = toOperand (counted m vs) k
+makes k (aLine m o) vs = toLine m (counted o vs) k
+makes k aTimes vs = allow (k .closed && ltb 0 (k .before)) (stack k (k .before - 1) 0 0 true)
+
 -- One record more, for a source of length n.
 module _ (n : ℕ) where
   unfoldable pub checked : Stack → Record → Option Stack
-  checked k (ST p) = allow (complete k && leb (k .floor) p && leb p n) (record { place = p; floor = suc p; before = 0; operands = 0; above = 0; closed = false })
-  checked k (VC f t v) = given (spans n k f t) (toExpression 0 k)
-  checked k (VL f t) = given (spans n k f t) (toExpression 0 k)
-  checked k (VI f t) = given (spans n k f t) (toExpression 0 k)
-  checked k (VS f t) = given (spans n k f t) (toExpression 0 k)
-  checked k (PF f t o) = given (spans n k f t && ltb o 2) (toExpression 1 k)
-  checked k (IN f t o) = given (spans n k f t && ltb o 4) (toExpression 2 k)
-  checked k (OR f t r) = given (spans n k f t && ltb r 16) (toOperand 0 k)
-  checked k (OS f t s) = given (spans n k f t && ltb s 4) (toOperand 0 k)
-  checked k (OI f t) = given (spans n k f t) (toOperand 1 k)
-  checked k (OF f t) = given (spans n k f t) (toOperand 2 k)
-  checked k (OD f t z s) = given (spans n k f t && leb z 2 && leb s 4) (toOperand 1 k)
-  checked k (OX f t e d z s) = given (spans n k f t && ltb e 8 && leb d 1 && leb z 2 && leb s 4) (toOperand d k)
-  checked k (LL f t) = given (spans n k f t) (toLine 0 0 k)
-  checked k (LI f t o m f′ t′) = given (spans n k f t && ltb o 99 && leb m 2 && spans n k f′ t′) (toLine 0 m k)
-  checked k (LD f t d) = given (spans n k f t && ltb 0 (length d)) (toLine 0 0 k)
-  checked k (LC f t) = given (spans n k f t) (toLine 1 0 k)
-  checked k LT = allow (k .closed && ltb 0 (k .before)) (stack k (k .before - 1) 0 0 true)
+  unfolding formOf inRange makes
+  checked k r = maybe (formOf (markOf r)) none λ w. given (inRange n k w r) (makes k (w .role) (fieldsOf r))
 
   unfoldable pub checkedAll : Stack → List Record → Option Stack
   checkedAll k [] = some k
@@ -84,5 +102,5 @@ unfoldable pub wellFormed : ℕ → List Record → Bool
 wellFormed n w = maybe (checkedAll n fresh w) false complete
 
 unfoldable pub openWellFormed : Unit {0}
-unfolding stack allow toExpression toOperand toLine complete spans given checked checkedAll fresh wellFormed
+unfolding stack allow toExpression toOperand toLine complete spans given ranges inRange makes checked checkedAll fresh wellFormed
 openWellFormed = tt

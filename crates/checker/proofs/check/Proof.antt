@@ -2,19 +2,20 @@
 -- Assumes nothing.
 use mathlib.Core.Path.{_≡_, refl, sym, ap, ap₂, _∙_}
 use mathlib.Core.Bool.{Bool, _&&_}
-use mathlib.Core.List.{List}
+use mathlib.Core.List.{List, [], _∷_}
 use Prim.Native.Nat.{ℕ, _+_, _*_, _≤_}
 use native.Mathlib.Omega.{arith}
 use borrow.Author.Needs.{needs}
-use lib.Dec.{eqb, leb, ltb}
+use lib.Dec.{ltb}
 use lib.ListN as ListN
 use Rattle.lexer.specs.Text.{bytes, same}
 use Rattle.rules.specs.Records.{ST}
-use Rattle.rules.specs.Decode.{nth, recordOf}
+use Rattle.rules.specs.Decode.{nth, nthsFrom, recordOf}
 use Rattle.rules.specs.WellFormed.{Stack, given, spans, checked, toOperand, toLine}
-use Rattle.checker.specs.Checker.{fieldAt, passes, stackOf}
+use Rattle.records.proofs.Marking.{no-form}
+use Rattle.checker.specs.Checker.{fieldIn, passes, stackOf}
 use Rattle.checker.proofs.Fields.{field-nth}
-use Rattle.checker.proofs.Arms.{arm, arm-times, arm-data, given-true, no-mark}
+use Rattle.checker.proofs.Arms.{arm, arm-data, given-true, no-record}
 use Rattle.checker.proofs.check.Statement.{statement}
 use Rattle.checker.proofs.check.Tie as tie
 
@@ -28,13 +29,13 @@ before c = stackOf (c .before .before .before .before .args .k)
 abbrev long : tie.After-spans → ℕ
 long c = c .before .before .before .before .args .length
 
--- one test more, of a field that is at most m
-also : (m : ℕ) {b b′ : Bool} {v v′ : ℕ} → b ≡ b′ → v ≡ v′ → b && leb v m ≡ b′ && leb v′ m
-also m p e = ap₂ _&&_ p (ap (λ (v : ℕ). leb v m) e)
+-- one test more, of a field that is below m
+also : (m : ℕ) {b b′ : Bool} {v v′ : ℕ} → b ≡ b′ → v ≡ v′ → b && ltb v m ≡ b′ && ltb v′ m
+also m p e = ap₂ _&&_ p (ap (λ (v : ℕ). ltb v m) e)
 
 -- the fields that have room
 module _ (c : tie.After-spans) where
-  nth-at : (i : ℕ) {v : ℕ} → v ≡ fieldAt i (body c) → 4 * i + 4 ≤ ListN.length (body c) → v ≡ nth i (body c)
+  nth-at : (i : ℕ) {v : ℕ} → v ≡ fieldIn i (body c) → 4 * i + 4 ≤ ListN.length (body c) → v ≡ nth i (body c)
   nth-at i e h = e ∙ field-nth i (body c) h
 
   from : 4 ≤ ListN.length (body c) → c .before .before .field .result ≡ nth 0 (body c)
@@ -47,7 +48,7 @@ module _ (c : tie.After-spans) where
   spanned h = c .spans .ensures ∙ ap₂ (spans (long c) (before c)) (from (omega arith)) (to h)
 
   -- the span, and a number below m
-  below : (m : ℕ) {v : ℕ} → v ≡ fieldAt 2 (body c) → 12 ≤ ListN.length (body c) → c .spans .result && ltb v m ≡ spans (long c) (before c) (nth 0 (body c)) (nth 1 (body c)) && ltb (nth 2 (body c)) m
+  below : (m : ℕ) {v : ℕ} → v ≡ fieldIn 2 (body c) → 12 ≤ ListN.length (body c) → c .spans .result && ltb v m ≡ spans (long c) (before c) (nth 0 (body c)) (nth 1 (body c)) && ltb (nth 2 (body c)) m
   below m e h = ap₂ _&&_ (spanned (omega arith)) (ap (λ (v : ℕ). ltb v m) (nth-at 2 e (omega arith)))
 
 returns : tie.Need-returns
@@ -100,7 +101,7 @@ unfolding recordOf same bytes checked
 returns-12 c = c .given12 .ensures ∙ arm _ _ _ 4 _ _ _ (c .before .before .before .before .match .keys12) refl λ h.
     let b = c .before .before .before .before .before in
     ap₂ given
-    (also 4 (also 2 (spanned b (omega arith)) (nth-at b 2 (c .before .before .before .field7 .ensures .0) (omega arith))) (nth-at b 3 (c .before .before .field8 .ensures .0) (omega arith)))
+    (also 5 (also 3 (spanned b (omega arith)) (nth-at b 2 (c .before .before .before .field7 .ensures .0) (omega arith))) (nth-at b 3 (c .before .before .field8 .ensures .0) (omega arith)))
     (c .before .to-operand5 .ensures)
 
 returns-13 : tie.Need-returns-13
@@ -109,7 +110,7 @@ returns-13 c = c .given13 .ensures ∙ arm _ _ _ 6 _ _ _ (c .before .before .bef
     let b = c .before .before .before .before .before .before .before in
     let d = nth-at b 3 (c .before .before .before .before .before .field9 .ensures .0) (omega arith) in
     ap₂ given
-    (also 4 (also 2 (also 1 (below b 8 (c .before .before .before .before .field10 .ensures .0) (omega arith)) d) (nth-at b 4 (c .before .before .before .field11 .ensures .0) (omega arith))) (nth-at b 5 (c .before .before .field12 .ensures .0) (omega arith)))
+    (also 5 (also 3 (also 2 (below b 8 (c .before .before .before .before .field10 .ensures .0) (omega arith)) d) (nth-at b 4 (c .before .before .before .field11 .ensures .0) (omega arith))) (nth-at b 5 (c .before .before .field12 .ensures .0) (omega arith)))
     (c .before .to-operand6 .ensures ∙ ap (λ (v : ℕ). toOperand v (before b)) d)
 
 returns-14 : tie.Need-returns-14
@@ -122,13 +123,14 @@ returns-15 c = c .given15 .ensures ∙ arm _ _ _ 6 _ _ _ (c .before .before .bef
     let b = c .before .before .before .before .before .before .before .before in
     let n = nth-at b 3 (c .before .before .before .before .before .before .field13 .ensures .0) (omega arith) in
     ap₂ given
-    (ap₂ _&&_ (also 2 (below b 99 (c .before .before .field16 .ensures .0) (omega arith)) n)
+    (ap₂ _&&_ (also 3 (below b 99 (c .before .before .field16 .ensures .0) (omega arith)) n)
     (c .before .before .before .spans2 .ensures ∙ ap₂ (spans (long b) (before b)) (nth-at b 4 (c .before .before .before .before .before .field14 .ensures .0) (omega arith)) (nth-at b 5 (c .before .before .before .before .field15 .ensures .0) (omega arith))))
     (c .before .to-line2 .ensures ∙ ap (λ (v : ℕ). toLine 0 v (before b)) n)
 
 returns-16 : tie.Need-returns-16
-unfolding recordOf same bytes checked
-returns-16 c = c .given16 .ensures ∙ arm-data _ _ _ _ _ _ (c .before .before .before .match .keys16) refl (c .before .before .field17 .ensures .0) (spanned (c .before .before .before .before)) (c .before .to-line3 .ensures)
+unfolding recordOf same bytes checked nthsFrom
+returns-16 c = c .given16 .ensures ∙ arm-data _ _ _ _ (76 ∷ 68 ∷ []) (c .before .before .before .before .spans .result) _ (c .before .before .before .match .keys16) refl (c .before .before .field17 .ensures .0)
+    (λ d e h. let b = c .before .before .before .before in ap₂ given (ap₂ _&&_ (spanned b (omega arith)) (ap (ltb 0) (sym e))) (c .before .to-line3 .ensures))
 
 returns-17 : tie.Need-returns-17
 unfolding recordOf same bytes checked
@@ -136,11 +138,12 @@ returns-17 c = c .given17 .ensures ∙ arm _ _ _ 2 _ _ _ (c .before .before .mat
 
 returns-18 : tie.Need-returns-18
 unfolding recordOf same bytes checked
-returns-18 c = c .given18 .ensures ∙ arm-times _ _ _ _ _ (c .before .before .match .keys18) refl
-    (λ h. ap₂ _&&_ (ap (λ (v : ℕ). eqb v 0) (from (c .before .before .before) (omega arith))) (ap (λ (v : ℕ). eqb v 0) (to (c .before .before .before) (omega arith)))) (c .before .to-times .ensures)
+returns-18 c = c .given18 .ensures ∙ arm _ _ _ 2 _ _ _ (c .before .before .match .keys18) refl λ h.
+    let b = c .before .before .before in
+    ap₂ given (ap₂ _&&_ (ap (λ (v : ℕ). ltb v 1) (from b (omega arith))) (ap (λ (v : ℕ). ltb v 1) (to b (omega arith)))) (c .before .to-times .ensures)
 
 returns-19 : tie.Need-returns-19
-returns-19 c = sym (ap (passes (long (c .before)) (before (c .before))) (no-mark _ _ (c .match .rest)))
+returns-19 c = sym (ap (passes (long (c .before)) (before (c .before))) (no-record _ _ (no-form _ (c .match .rest))))
 
 pub check-spec : {M : Type 1} → statement M
 check-spec = tie.close (tie.spec (λ c κs. search needs) (λ c κs. search needs) (λ c κs. search needs) (λ c κs. search needs) (λ c κs. search needs)

@@ -10,15 +10,6 @@ use Rattle.checker.proofs.given.Tie as tie
 returns : tie.Need-returns
 returns c = sym (short _ _ _ _ (c .if1 .taken))
 
-enum-known-c : tie.Need-enum-known-c
-enum-known-c c = search needs
-
-add-t10 : tie.Need-add-t10
-add-t10 c = search needs
-
-enum-told : tie.Need-enum-told
-enum-told c = search needs
-
 returns-2 : tie.Need-returns-2
 returns-2 c = sym (good _ _ _ _ (c .before .before .before .before .if1 .left) (c .before .before .before .if2 .taken) (ap checkedOf (c .before .c .given .1)))
 
@@ -29,4 +20,4 @@ returns-4 : tie.Need-returns-4
 returns-4 c = sym (wrong _ _ _ _ (c .before .if1 .left) (c .if2 .left))
 
 pub given-spec : {M : Type 1} → statement M
-given-spec = tie.close (tie.spec returns enum-known-c add-t10 enum-told returns-2 returns-3 returns-4)
+given-spec = tie.close (tie.spec returns (λ c. search needs) (λ c. search needs) (λ c. search needs) returns-2 returns-3 returns-4)

@@ -12,12 +12,6 @@ use Rattle.checker.proofs.to_expression.Tie as tie
 sub-counted : tie.Need-sub-counted
 sub-counted c = enough _ _ _ (c .before .if2 .taken)
 
-add-counted : tie.Need-add-counted
-add-counted c = search needs
-
-counted-requires : tie.Need-counted-requires
-counted-requires c κs = search needs
-
 returns : tie.Need-returns
 unfolding toExpression
 returns c = ap some (c .counted .ensures) ∙ sym (first _ _ _ (c .before .before .before .before .before .if1 .taken) ∙ allowed _ _ (c .before .before .if2 .taken))
@@ -25,12 +19,6 @@ returns c = ap some (c .counted .ensures) ∙ sym (first _ _ _ (c .before .befor
 returns-2 : tie.Need-returns-2
 unfolding toExpression
 returns-2 c = sym (first _ _ _ (c .before .before .before .if1 .taken) ∙ denied _ _ (c .if2 .left))
-
-add-counted-2 : tie.Need-add-counted-2
-add-counted-2 c = search needs
-
-counted-requires-2 : tie.Need-counted-requires-2
-counted-requires-2 c κs = search needs
 
 returns-3 : tie.Need-returns-3
 unfolding toExpression
@@ -41,4 +29,4 @@ unfolding toExpression
 returns-4 c = sym (later _ _ _ (c .before .before .if1 .left) ∙ denied _ _ (lt-leb _ _ (c .if3 .left)))
 
 pub to-expression-spec : {M : Type 1} → statement M
-to-expression-spec = tie.close (tie.spec sub-counted add-counted counted-requires returns returns-2 add-counted-2 counted-requires-2 returns-3 returns-4)
+to-expression-spec = tie.close (tie.spec sub-counted (λ c. search needs) (λ c κs. search needs) returns returns-2 (λ c. search needs) (λ c κs. search needs) returns-3 returns-4)

@@ -11,9 +11,6 @@ use Rattle.checker.proofs.to_line.Tie as tie
 sub-counted : tie.Need-sub-counted
 sub-counted c = enough₃ _ _ _ _ _ (c .before .if1 .taken)
 
-counted-requires : tie.Need-counted-requires
-counted-requires c κs = search needs
-
 returns : tie.Need-returns
 unfolding toLine
 returns c = ap some (c .counted .ensures) ∙ sym (allowed _ _ (c .before .before .if1 .taken))
@@ -23,4 +20,4 @@ unfolding toLine
 returns-2 c = sym (denied _ _ (c .if1 .left))
 
 pub to-line-spec : {M : Type 1} → statement M
-to-line-spec = tie.close (tie.spec sub-counted counted-requires returns returns-2)
+to-line-spec = tie.close (tie.spec sub-counted (λ c κs. search needs) returns returns-2)

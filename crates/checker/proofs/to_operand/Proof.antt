@@ -12,9 +12,6 @@ use Rattle.checker.proofs.to_operand.Tie as tie
 sub-counted : tie.Need-sub-counted
 sub-counted c = enough _ _ _ (c .before .if2 .taken)
 
-counted-requires : tie.Need-counted-requires
-counted-requires c κs = search needs
-
 returns : tie.Need-returns
 unfolding toOperand
 returns c = ap some (c .counted .ensures) ∙ sym (first _ _ _ (c .before .before .before .before .before .if1 .taken) ∙ allowed _ _ (c .before .before .if2 .taken))
@@ -22,12 +19,6 @@ returns c = ap some (c .counted .ensures) ∙ sym (first _ _ _ (c .before .befor
 returns-2 : tie.Need-returns-2
 unfolding toOperand
 returns-2 c = sym (first _ _ _ (c .before .before .before .if1 .taken) ∙ denied _ _ (c .if2 .left))
-
-add-counted : tie.Need-add-counted
-add-counted c = search needs
-
-counted-requires-2 : tie.Need-counted-requires-2
-counted-requires-2 c κs = search needs
 
 returns-3 : tie.Need-returns-3
 unfolding toOperand
@@ -38,4 +29,4 @@ unfolding toOperand
 returns-4 c = sym (later _ _ _ (c .before .before .if1 .left) ∙ denied _ _ (ne-eqb _ _ (c .if3 .left)))
 
 pub to-operand-spec : {M : Type 1} → statement M
-to-operand-spec = tie.close (tie.spec sub-counted counted-requires returns returns-2 add-counted counted-requires-2 returns-3 returns-4)
+to-operand-spec = tie.close (tie.spec sub-counted (λ c κs. search needs) returns returns-2 (λ c. search needs) (λ c κs. search needs) returns-3 returns-4)

@@ -6,12 +6,6 @@ use Rattle.checker.proofs.Stacks.{began, unbegun}
 use Rattle.checker.proofs.to_statement.Statement.{statement}
 use Rattle.checker.proofs.to_statement.Tie as tie
 
-complete-requires : tie.Need-complete-requires
-complete-requires c κs = search needs
-
-add-t9 : tie.Need-add-t9
-add-t9 c = search needs
-
 returns : tie.Need-returns
 returns c = sym (began _ _ _ _ (c .before .before .complete .ensures) (c .if1 .taken))
 
@@ -19,4 +13,4 @@ returns-2 : tie.Need-returns-2
 returns-2 c = sym (unbegun _ _ _ _ (c .before .before .complete .ensures) (c .if1 .left))
 
 pub to-statement-spec : {M : Type 1} → statement M
-to-statement-spec = tie.close (tie.spec complete-requires add-t9 returns returns-2)
+to-statement-spec = tie.close (tie.spec (λ c κs. search needs) (λ c. search needs) returns returns-2)

@@ -3,7 +3,7 @@
 use mathlib.Core.Path.{sym, ap, _∙_}
 use mathlib.Core.Option.{some}
 use borrow.Author.Needs.{needs}
-use Rattle.rules.specs.WellFormed.{checked}
+use Rattle.rules.specs.WellFormed.{makes}
 use Rattle.checker.proofs.Stacks.{allowed, denied, one-left}
 use Rattle.checker.proofs.to_times.Statement.{statement}
 use Rattle.checker.proofs.to_times.Tie as tie
@@ -11,16 +11,13 @@ use Rattle.checker.proofs.to_times.Tie as tie
 sub-counted : tie.Need-sub-counted
 sub-counted c = one-left (c .before .before .before .before .args .k .closed) _ (c .before .if1 .taken)
 
-counted-requires : tie.Need-counted-requires
-counted-requires c κs = search needs
-
 returns : tie.Need-returns
-unfolding checked
+unfolding makes
 returns c = ap some (c .counted .ensures) ∙ sym (allowed _ _ (c .before .before .if1 .taken))
 
 returns-2 : tie.Need-returns-2
-unfolding checked
+unfolding makes
 returns-2 c = sym (denied _ _ (c .if1 .left))
 
 pub to-times-spec : {M : Type 1} → statement M
-to-times-spec = tie.close (tie.spec sub-counted counted-requires returns returns-2)
+to-times-spec = tie.close (tie.spec sub-counted (λ c κs. search needs) returns returns-2)

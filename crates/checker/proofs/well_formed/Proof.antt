@@ -22,12 +22,6 @@ loop-holds c = stands-first _ _
 check-at-requires : tie.Need-check-at-requires Inv-loop μ-loop
 check-at-requires c κs = (c .loop-test .taken, omega (arith, c .before .loop .inv .low))
 
-enum-known-next : tie.Need-enum-known-next Inv-loop μ-loop
-enum-known-next c = search needs
-
-enum-told : tie.Need-enum-told Inv-loop μ-loop
-enum-told c = search needs
-
 returns : tie.Need-returns Inv-loop μ-loop
 returns c = stands-bad (c .before .before .before .before .loop .inv) (c .before .before .before .loop-test .taken) (sym (c .before .before .check-at .ensures) ∙ ap passedOf (c .enum-told .given .1))
 
@@ -45,11 +39,8 @@ loop-less c = omega (arith, again c .0 .within, again c .1)
 loop-again : tie.Need-loop-again Inv-loop μ-loop
 loop-again c = again c .0
 
-complete-requires : tie.Need-complete-requires Inv-loop μ-loop
-complete-requires c κs = search needs
-
 returns-2 : tie.Need-returns-2 Inv-loop μ-loop
 returns-2 c = c .complete .ensures ∙ stands-end (c .before .before .loop .inv) (c .before .loop-test .left)
 
 pub well-formed-spec : {M : Type 1} → statement M
-well-formed-spec = tie.close (tie.spec Inv-loop μ-loop loop-holds check-at-requires enum-known-next enum-told returns add-at loop-less loop-again complete-requires returns-2)
+well-formed-spec = tie.close (tie.spec Inv-loop μ-loop loop-holds check-at-requires (λ c. search needs) (λ c. search needs) returns add-at loop-less loop-again (λ c κs. search needs) returns-2)

@@ -1,30 +1,14 @@
 -- Each case is its own line of the definition.
 use borrow.Author.Needs.{needs}
-use mathlib.Core.Path.{_≡_, refl, sym, ap, _∙_}
+use mathlib.Core.Path.{_≡_, sym, ap, _∙_}
 use Prim.Native.Nat.{ℕ}
 use Rattle.laqhoncu.specs.declared.Numbers.{Numbers}
 use Rattle.laqhoncu.specs.Readings.{full, fullReading}
 use Rattle.laqhoncu.proofs.full_reading.Statement.{statement}
 use Rattle.laqhoncu.proofs.full_reading.Tie as tie
-use Rattle.laqhoncu.proofs.full_reading.Reads as reads
-use Rattle.laqhoncu.proofs.full_reading.Lts as lts
-use Rattle.laqhoncu.proofs.numbered.Reads as numbered-reads
-use Rattle.laqhoncu.proofs.numbers_of.Reads as numbers-of-reads
 
 same : {x y : Numbers} {n : ℕ} → x ≡ y → full x n ≡ full y n
 same {n = n} e = ap (λ (x : Numbers). full x n) e
-
-enum-known-a : tie.Need-enum-known-a
-enum-known-a c = search needs
-
-numbered-requires : tie.Need-numbered-requires
-numbered-requires c κs = search needs
-
-enum-known-a-2 : tie.Need-enum-known-a-2
-enum-known-a-2 c = search needs
-
-numbers-of-requires : tie.Need-numbers-of-requires
-numbers-of-requires c κs = search needs
 
 returns : tie.Need-returns
 returns c = same (c .numbered .ensures) ∙ ap fullReading (sym (c .before .before .a .given .1))
@@ -35,4 +19,4 @@ returns-2 c = same (c .numbers-of .ensures) ∙ ap fullReading (sym (c .before .
 pub full-reading-spec : {M : Type 1} → statement M
 full-reading-spec =
     tie.close
-    (tie.spec enum-known-a numbered-requires enum-known-a-2 numbers-of-requires returns returns-2)
+    (tie.spec (λ c. search needs) (λ c κs. search needs) (λ c. search needs) (λ c κs. search needs) returns returns-2)

@@ -1,20 +1,17 @@
 -- The invariant: the tokens counted and those from here on are all; each has a byte, so the count is at most the place.
 -- Assumes nothing.
 use Prim.Native.Nat.{_+_, _-_, _≤_}
-use mathlib.Core.Path.{_≡_, refl, sym, ap, _∙_}
+use mathlib.Core.Path.{_≡_, ap}
 use native.Mathlib.Omega.{arith}
 use borrow.Author.Needs.{needs}
 use denote.Ref.{now}
 use lib.ListN.{length, drop}
 use Rattle.lexer.specs.declared.Scanned.{Scanned}
-use Rattle.parser.proofs.Stream.{bounds}
+use Rattle.state.proofs.Stream.{bounds}
 use Rattle.laqhoncu.specs.Counted.{countFrom}
 use Rattle.laqhoncu.proofs.Counting.{count-step, count-end}
 use Rattle.laqhoncu.proofs.laqhoncu_count.Statement.{statement}
 use Rattle.laqhoncu.proofs.laqhoncu_count.Tie as tie
-use Rattle.laqhoncu.proofs.laqhoncu_count.Reads as reads
-use Rattle.laqhoncu.proofs.laqhoncu_count.Lts as lts
-use Rattle.lexer.proofs.scan.Reads as scan-reads
 
 abbrev Inv-loop : tie.InvT-loop
 Inv-loop source at₀ n₀ at n = (at ≤ length source) × (n ≤ at) × (n + countFrom 0 (drop at source) ≡ countFrom 0 source)
@@ -24,9 +21,6 @@ abbrev μ-loop : tie.MeasureT-loop
 
 loop-holds : tie.Need-loop-holds Inv-loop μ-loop
 loop-holds c = (omega arith, omega arith, omega arith)
-
-scan-requires : tie.Need-scan-requires Inv-loop μ-loop
-scan-requires c κs = search needs
 
 add-n : tie.Need-add-n Inv-loop μ-loop
 add-n c = omega (arith, c .before .before .loop .inv .0, c .before .before .loop .inv .1, c .before .loop-test .taken)
@@ -43,4 +37,4 @@ returns c = omega (arith, c .before .loop .inv .2, count-end (now (c .before .be
 pub laqhoncu-count-spec : {M : Type 1} → statement M
 laqhoncu-count-spec =
     tie.close
-    (tie.spec Inv-loop μ-loop loop-holds scan-requires add-n loop-less loop-again returns)
+    (tie.spec Inv-loop μ-loop loop-holds (λ c κs. search needs) add-n loop-less loop-again returns)

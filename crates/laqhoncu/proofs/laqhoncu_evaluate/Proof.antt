@@ -1,8 +1,8 @@
 -- The four numbers in turn, each its own operator.
 use borrow.Author.Needs.{needs}
-use mathlib.Core.Path.{_≡_, refl, sym, ap, _∙_}
+use mathlib.Core.Path.{_≡_, sym, ap, _∙_}
 use Prim.Native.Nat.{ℕ}
-use mathlib.Core.Bool.{Bool, true, false}
+use mathlib.Core.Bool.{true, false}
 use lib.Dec.{eqb}
 use borrow.Author.Tests.{eq-eqb, ne-eqb}
 use lib.IntN.{ℤ, pos}
@@ -12,10 +12,6 @@ use Rattle.laqhoncu.specs.Readings.{numbered, value, valued, valuation}
 use Rattle.laqhoncu.proofs.Signed.{back}
 use Rattle.laqhoncu.proofs.laqhoncu_evaluate.Statement.{statement}
 use Rattle.laqhoncu.proofs.laqhoncu_evaluate.Tie as tie
-use Rattle.laqhoncu.proofs.laqhoncu_evaluate.Reads as reads
-use Rattle.laqhoncu.proofs.laqhoncu_evaluate.Lts as lts
-use Rattle.laqhoncu.proofs.evaluated.Reads as evaluated-reads
-use Rattle.laqhoncu.proofs.numbered.Reads as numbered-reads
 
 module _ (op : ℕ) (a b : ℤ) where
   adds : eqb op 0 ≡ true → valuation op a b ≡ valued (evaluate 0 a b)
@@ -38,32 +34,17 @@ module _ (op : ℕ) (a b : ℤ) where
   unfolding valuation
   no-operator n m k e = rw (n, m, k, e)
 
-evaluated-requires : tie.Need-evaluated-requires
-evaluated-requires c κs = search needs
-
 returns : tie.Need-returns
 returns c = c .evaluated .ensures ∙ back (λ (a b : ℤ). valued (evaluate 0 a b)) (c .before .before .fits .left) (c .before .before .fits .right) ∙ sym (adds _ _ _ (eq-eqb _ _ (c .before .if1 .taken)))
-
-evaluated-requires-2 : tie.Need-evaluated-requires-2
-evaluated-requires-2 c κs = search needs
 
 returns-2 : tie.Need-returns-2
 returns-2 c = c .evaluated2 .ensures ∙ back (λ (a b : ℤ). valued (evaluate 1 a b)) (c .before .before .before .fits .left) (c .before .before .before .fits .right) ∙ sym (subtracts _ _ _ (ne-eqb _ _ (c .before .before .if1 .left)) (eq-eqb _ _ (c .before .if2 .taken)))
 
-evaluated-requires-3 : tie.Need-evaluated-requires-3
-evaluated-requires-3 c κs = search needs
-
 returns-3 : tie.Need-returns-3
 returns-3 c = c .evaluated3 .ensures ∙ back (λ (a b : ℤ). valued (evaluate 2 a b)) (c .before .before .before .before .fits .left) (c .before .before .before .before .fits .right) ∙ sym (multiplies _ _ _ (ne-eqb _ _ (c .before .before .before .if1 .left)) (ne-eqb _ _ (c .before .before .if2 .left)) (eq-eqb _ _ (c .before .if3 .taken)))
 
-evaluated-requires-4 : tie.Need-evaluated-requires-4
-evaluated-requires-4 c κs = search needs
-
 returns-4 : tie.Need-returns-4
 returns-4 c = c .evaluated4 .ensures ∙ back (λ (a b : ℤ). valued (evaluate 3 a b)) (c .before .before .before .before .before .fits .left) (c .before .before .before .before .before .fits .right) ∙ sym (divides _ _ _ (ne-eqb _ _ (c .before .before .before .before .if1 .left)) (ne-eqb _ _ (c .before .before .before .if2 .left)) (ne-eqb _ _ (c .before .before .if3 .left)) (eq-eqb _ _ (c .before .if4 .taken)))
-
-numbered-requires : tie.Need-numbered-requires
-numbered-requires c κs = search needs
 
 returns-5 : tie.Need-returns-5
 returns-5 c = ap (λ (x : Numbers). value x (pos 0)) (c .numbered .ensures) ∙ sym (no-operator _ _ _ (ne-eqb _ _ (c .before .before .before .before .if1 .left)) (ne-eqb _ _ (c .before .before .before .if2 .left)) (ne-eqb _ _ (c .before .before .if3 .left)) (ne-eqb _ _ (c .before .if4 .left)))
@@ -72,13 +53,13 @@ pub laqhoncu-evaluate-spec : {M : Type 1} → statement M
 laqhoncu-evaluate-spec =
     tie.close
     (tie.spec
-    evaluated-requires
+    (λ c κs. search needs)
     returns
-    evaluated-requires-2
+    (λ c κs. search needs)
     returns-2
-    evaluated-requires-3
+    (λ c κs. search needs)
     returns-3
-    evaluated-requires-4
+    (λ c κs. search needs)
     returns-4
-    numbered-requires
+    (λ c κs. search needs)
     returns-5)

@@ -10,20 +10,9 @@ use Rattle.names.specs.Keys.{goodTable}
 use Rattle.names.proofs.Operations.{operations-good}
 use Rattle.laqhoncu.proofs.laqhoncu_operation.Statement.{statement}
 use Rattle.laqhoncu.proofs.laqhoncu_operation.Tie as tie
-use Rattle.laqhoncu.proofs.laqhoncu_operation.Reads as reads
-use Rattle.laqhoncu.proofs.laqhoncu_operation.Lts as lts
-use Rattle.laqhoncu.proofs.operation_byte.Reads as operation-byte-reads
-use Rattle.names.proofs.operation.Reads as operation-reads
-use Rattle.names.proofs.table.Reads as table-reads
-
-table-requires : tie.Need-table-requires
-table-requires c κs = search needs
 
 operation-requires : tie.Need-operation-requires
 operation-requires c κs = ap goodTable (c .before .table .ensures) ∙ operations-good
-
-operation-byte-requires : tie.Need-operation-byte-requires
-operation-byte-requires c κs = search needs
 
 returns : tie.Need-returns
 returns c =
@@ -32,4 +21,4 @@ returns c =
 
 pub laqhoncu-operation-spec : {M : Type 1} → statement M
 laqhoncu-operation-spec =
-    tie.close (tie.spec table-requires operation-requires operation-byte-requires returns)
+    tie.close (tie.spec (λ c κs. search needs) (λ c. search needs) operation-requires (λ c κs. search needs) returns)

@@ -1,6 +1,6 @@
 -- Each case is its own line of the definition. A number's value comes back from its 32 bits, since it fits them.
 use borrow.Author.Needs.{needs}
-use mathlib.Core.Path.{_≡_, refl, sym, ap, _∙_}
+use mathlib.Core.Path.{sym, ap, _∙_}
 use mathlib.Core.Bool.{Bool}
 use lib.IntN.{ℤ}
 use Rattle.lexer.specs.Scanned.{number}
@@ -11,21 +11,6 @@ use Rattle.lexer.specs.declared.LiteralKind.the-variants.{Text}
 use Rattle.laqhoncu.specs.Found.{found, literalFound}
 use Rattle.laqhoncu.proofs.literal_found.Statement.{statement}
 use Rattle.laqhoncu.proofs.literal_found.Tie as tie
-use Rattle.laqhoncu.proofs.literal_found.Reads as reads
-use Rattle.laqhoncu.proofs.literal_found.Lts as lts
-use Rattle.laqhoncu.proofs.plain.Reads as plain-reads
-
-enum-known-k : tie.Need-enum-known-k
-enum-known-k c = search needs
-
-enum-known-k-2 : tie.Need-enum-known-k-2
-enum-known-k-2 c = search needs
-
-plain-requires : tie.Need-plain-requires
-plain-requires c κs = search needs
-
-plain-requires-2 : tie.Need-plain-requires-2
-plain-requires-2 c κs = search needs
 
 returns : tie.Need-returns
 returns c =
@@ -46,10 +31,10 @@ pub literal-found-spec : {M : Type 1} → statement M
 literal-found-spec =
     tie.close
     (tie.spec
-    enum-known-k
-    enum-known-k-2
-    plain-requires
-    plain-requires-2
+    (λ c. search needs)
+    (λ c. search needs)
+    (λ c κs. search needs)
+    (λ c κs. search needs)
     returns
     returns-2
     returns-3)

@@ -5,35 +5,14 @@ use lib.IntN.{ℤ}
 use mir.Syntax.{w32}
 use mir.Facts.{toZ-ofZ}
 use Rattle.laqhoncu.specs.declared.Numbers.{Numbers}
-use Rattle.parser.specs.declared.expressions.Evaluated.{Evaluated}
-use Rattle.parser.specs.Operators.{resultOf}
+use Rattle.operators.specs.declared.Evaluated.{Evaluated}
+use Rattle.operators.specs.Operators.{resultOf}
 use Rattle.laqhoncu.specs.Readings.{value, valued}
 use Rattle.laqhoncu.proofs.valuation_of.Statement.{statement}
 use Rattle.laqhoncu.proofs.valuation_of.Tie as tie
-use Rattle.laqhoncu.proofs.valuation_of.Reads as reads
-use Rattle.laqhoncu.proofs.valuation_of.Lts as lts
-use Rattle.laqhoncu.proofs.numbered.Reads as numbered-reads
 
 same : {x y : Numbers} {v w : ℤ} → x ≡ y → v ≡ w → value x v ≡ value y w
 same {y = y} {v = v} e f = ap (λ (x : Numbers). value x v) e ∙ ap (value y) f
-
-enum-known-e : tie.Need-enum-known-e
-enum-known-e c = search needs
-
-numbered-requires : tie.Need-numbered-requires
-numbered-requires c κs = search needs
-
-enum-told : tie.Need-enum-told
-enum-told c = search needs
-
-numbered-requires-2 : tie.Need-numbered-requires-2
-numbered-requires-2 c κs = search needs
-
-enum-told-2 : tie.Need-enum-told-2
-enum-told-2 c = search needs
-
-numbered-requires-3 : tie.Need-numbered-requires-3
-numbered-requires-3 c κs = search needs
 
 returns : tie.Need-returns
 returns c = same (c .numbered .ensures) (toZ-ofZ {w = w32} {z = c .before .before .e .given .0 .0} (record { sfits = c .before .known-told .given .0 .1 })) ∙ ap (λ (e : Evaluated). valued (resultOf e)) (sym (c .before .before .e .given .1))
@@ -48,12 +27,12 @@ pub valuation-of-spec : {M : Type 1} → statement M
 valuation-of-spec =
     tie.close
     (tie.spec
-    enum-known-e
-    numbered-requires
-    enum-told
-    numbered-requires-2
-    enum-told-2
-    numbered-requires-3
+    (λ c. search needs)
+    (λ c κs. search needs)
+    (λ c. search needs)
+    (λ c κs. search needs)
+    (λ c. search needs)
+    (λ c κs. search needs)
     returns
     returns-2
     returns-3)

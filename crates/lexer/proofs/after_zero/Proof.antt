@@ -5,12 +5,6 @@ use borrow.Author.Needs.{needs}
 use Rattle.lexer.proofs.after_zero.Statement.{statement}
 use Rattle.lexer.proofs.after_zero.Tie as tie
 
-add-char-at : tie.Need-add-char-at
-add-char-at c = search needs
-
-char-at-requires : tie.Need-char-at-requires
-char-at-requires c κs = search needs
-
 returns : tie.Need-returns
 unfolding is
 returns c = rw (eq-eqb _ 48 (c .before .if1 .taken)) (c .char-at .ensures)
@@ -20,4 +14,4 @@ unfolding is
 returns-2 c = rw (ne-eqb _ 48 (c .if1 .left))
 
 pub after-zero-spec : {M : Type 1} → statement M
-after-zero-spec = tie.close (tie.spec add-char-at char-at-requires returns returns-2)
+after-zero-spec = tie.close (tie.spec (λ c. search needs) (λ c κs. search needs) returns returns-2)

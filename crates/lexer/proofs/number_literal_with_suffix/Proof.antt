@@ -38,15 +38,6 @@ bare c =
       rw e at (sym (c .before .before .is-letter2 .ensures) ∙ c .before .if2 .left),
     )
 
-run-end-requires : tie.Need-run-end-requires
-run-end-requires c κs = search needs
-
-char-at-requires : tie.Need-char-at-requires
-char-at-requires c κs = search needs
-
-is-letter-requires : tie.Need-is-letter-requires
-is-letter-requires c κs = search needs
-
 add-number-literal : tie.Need-add-number-literal
 add-number-literal c = omega (arith, inside (c .before .before .before))
 
@@ -54,10 +45,7 @@ number-literal-requires : tie.Need-number-literal-requires
 number-literal-requires c κs = search (needs, inside (c .before .before .before), hex (c .before .before .before))
 
 returns : tie.Need-returns
-returns c = c .number-literal .ensures ∙ ap (scannedOf _) (sym (suffix-octal _ _ _ (c .before .before .before .before .before .before .pre .0) (c .before .before .before .before .before .before .pre .1) (c .before .before .before .before .run-end .ensures) (rw (c .before .before .before .char-at .ensures) at (sym (c .before .before .is-letter .ensures) ∙ c .before .if1 .taken))))
-
-is-letter-requires-2 : tie.Need-is-letter-requires-2
-is-letter-requires-2 c κs = search needs
+returns c = let start = c .before .before .before .before .before .before in c .number-literal .ensures ∙ ap (scannedOf _) (sym (suffix-octal _ _ _ (start .pre .0) (start .pre .1) (c .before .before .before .before .run-end .ensures) (rw (c .before .before .before .char-at .ensures) at (sym (c .before .before .is-letter .ensures) ∙ c .before .if1 .taken))))
 
 add-number-literal-2 : tie.Need-add-number-literal-2
 add-number-literal-2 c = omega (arith, inside (c .before .before .before .before .before))
@@ -66,7 +54,7 @@ number-literal-requires-2 : tie.Need-number-literal-requires-2
 number-literal-requires-2 c κs = search (needs, inside (c .before .before .before .before .before), hex (c .before .before .before .before .before))
 
 returns-2 : tie.Need-returns-2
-returns-2 c = c .number-literal2 .ensures ∙ ap (scannedOf _) (sym (suffix-hexadecimal _ _ _ (c .before .before .before .before .before .before .before .before .pre .0) (c .before .before .before .before .before .before .before .before .pre .1) (c .before .before .before .before .before .before .run-end .ensures) (rw (c .before .before .before .before .before .char-at .ensures) at (sym (c .before .before .before .before .is-letter .ensures) ∙ c .before .before .before .if1 .left)) (rw (c .before .before .before .before .before .char-at .ensures) at (sym (c .before .before .is-letter2 .ensures) ∙ c .before .if2 .taken))))
+returns-2 c = let start = c .before .before .before .before .before .before .before .before in c .number-literal2 .ensures ∙ ap (scannedOf _) (sym (suffix-hexadecimal _ _ _ (start .pre .0) (start .pre .1) (c .before .before .before .before .before .before .run-end .ensures) (rw (c .before .before .before .before .before .char-at .ensures) at (sym (c .before .before .before .before .is-letter .ensures) ∙ c .before .before .before .if1 .left)) (rw (c .before .before .before .before .before .char-at .ensures) at (sym (c .before .before .is-letter2 .ensures) ∙ c .before .if2 .taken))))
 
 sub-last : tie.Need-sub-last
 sub-last c = omega (arith, inside (c .before .before .before .before .before))
@@ -74,58 +62,49 @@ sub-last c = omega (arith, inside (c .before .before .before .before .before))
 shared-slice-read-suffix : tie.Need-shared-slice-read-suffix
 shared-slice-read-suffix c = omega (arith, inside (c .before .before .before .before .before .before))
 
-is-letter-requires-3 : tie.Need-is-letter-requires-3
-is-letter-requires-3 c κs = search needs
-
-run-end-requires-2 : tie.Need-run-end-requires-2
-run-end-requires-2 c κs = search needs
-
 returns-3 : tie.Need-returns-3
-returns-3 c = larger-scanned _ _ (inside (c .before .before .before .before .before .before .before .before .before .before) .0) ∙ ap (scannedOf _) (sym (suffix-larger _ _ _ (c .before .before .before .before .before .before .before .before .before .before .before .before .pre .0) (c .before .before .before .before .before .before .before .before .before .before .before .before .pre .1) (c .before .before .before .before .before .before .before .before .before .before .run-end .ensures) (bare (c .before .before .before .before) .0) (bare (c .before .before .before .before) .1) (sym (c .before .before .before .is-letter3 .ensures) ∙ c .before .before .if3 .taken) _ (c .before .run-end2 .ensures) (c .if4 .taken)))
+returns-3 c = let start = c .before .before .before .before .before .before .before .before .before .before .before .before in larger-scanned _ _ (inside (c .before .before .before .before .before .before .before .before .before .before) .0) ∙ ap (scannedOf _) (sym (suffix-larger _ _ _ (start .pre .0) (start .pre .1) (c .before .before .before .before .before .before .before .before .before .before .run-end .ensures) (bare (c .before .before .before .before) .0) (bare (c .before .before .before .before) .1) (sym (c .before .before .before .is-letter3 .ensures) ∙ c .before .before .if3 .taken) _ (c .before .run-end2 .ensures) (c .if4 .taken)))
 
 number-literal-requires-3 : tie.Need-number-literal-requires-3
 number-literal-requires-3 c κs = search (needs, inside (c .before .before .before .before .before .before .before .before .before .before), hex (c .before .before .before .before .before .before .before .before .before .before))
 
 returns-4 : tie.Need-returns-4
-returns-4 c = c .number-literal3 .ensures ∙ ap (scannedOf _) (sym (suffix-binary _ _ _ (c .before .before .before .before .before .before .before .before .before .before .before .before .before .pre .0) (c .before .before .before .before .before .before .before .before .before .before .before .before .before .pre .1) (c .before .before .before .before .before .before .before .before .before .before .before .run-end .ensures) (bare (c .before .before .before .before .before) .0) (bare (c .before .before .before .before .before) .1) (sym (c .before .before .before .before .is-letter3 .ensures) ∙ c .before .before .before .if3 .taken) _ (c .before .before .run-end2 .ensures) (c .before .if4 .left)))
-
-is-letter-requires-4 : tie.Need-is-letter-requires-4
-is-letter-requires-4 c κs = search needs
+returns-4 c = let start = c .before .before .before .before .before .before .before .before .before .before .before .before .before in c .number-literal3 .ensures ∙ ap (scannedOf _) (sym (suffix-binary _ _ _ (start .pre .0) (start .pre .1) (c .before .before .before .before .before .before .before .before .before .before .before .run-end .ensures) (bare (c .before .before .before .before .before) .0) (bare (c .before .before .before .before .before) .1) (sym (c .before .before .before .before .is-letter3 .ensures) ∙ c .before .before .before .if3 .taken) _ (c .before .before .run-end2 .ensures) (c .before .if4 .left)))
 
 number-literal-requires-4 : tie.Need-number-literal-requires-4
 number-literal-requires-4 c κs = search (needs, inside (c .before .before .before .before .before .before .before .before .before .before), hex (c .before .before .before .before .before .before .before .before .before .before))
 
 returns-5 : tie.Need-returns-5
-returns-5 c = c .number-literal4 .ensures ∙ ap (scannedOf _) (sym (suffix-decimal _ _ _ (c .before .before .before .before .before .before .before .before .before .before .before .before .before .pre .0) (c .before .before .before .before .before .before .before .before .before .before .before .before .before .pre .1) (c .before .before .before .before .before .before .before .before .before .before .before .run-end .ensures) (bare (c .before .before .before .before .before) .0) (bare (c .before .before .before .before .before) .1) (sym (c .before .before .before .before .is-letter3 .ensures) ∙ c .before .before .before .if3 .left) (sym (c .before .before .is-letter4 .ensures) ∙ c .before .if5 .taken)))
+returns-5 c = let start = c .before .before .before .before .before .before .before .before .before .before .before .before .before in c .number-literal4 .ensures ∙ ap (scannedOf _) (sym (suffix-decimal _ _ _ (start .pre .0) (start .pre .1) (c .before .before .before .before .before .before .before .before .before .before .before .run-end .ensures) (bare (c .before .before .before .before .before) .0) (bare (c .before .before .before .before .before) .1) (sym (c .before .before .before .before .is-letter3 .ensures) ∙ c .before .before .before .if3 .left) (sym (c .before .before .is-letter4 .ensures) ∙ c .before .if5 .taken)))
 
 number-literal-requires-5 : tie.Need-number-literal-requires-5
 number-literal-requires-5 c κs = search (needs, inside (c .before .before .before .before .before .before .before .before .before .before), hex (c .before .before .before .before .before .before .before .before .before .before))
 
 returns-6 : tie.Need-returns-6
-returns-6 c = c .number-literal5 .ensures ∙ ap (scannedOf _) (sym (suffix-none _ _ _ (c .before .before .before .before .before .before .before .before .before .before .before .before .before .pre .0) (c .before .before .before .before .before .before .before .before .before .before .before .before .before .pre .1) (c .before .before .before .before .before .before .before .before .before .before .before .run-end .ensures) (bare (c .before .before .before .before .before) .0) (bare (c .before .before .before .before .before) .1) (sym (c .before .before .before .before .is-letter3 .ensures) ∙ c .before .before .before .if3 .left) (sym (c .before .before .is-letter4 .ensures) ∙ c .before .if5 .left)))
+returns-6 c = let start = c .before .before .before .before .before .before .before .before .before .before .before .before .before in c .number-literal5 .ensures ∙ ap (scannedOf _) (sym (suffix-none _ _ _ (start .pre .0) (start .pre .1) (c .before .before .before .before .before .before .before .before .before .before .before .run-end .ensures) (bare (c .before .before .before .before .before) .0) (bare (c .before .before .before .before .before) .1) (sym (c .before .before .before .before .is-letter3 .ensures) ∙ c .before .before .before .if3 .left) (sym (c .before .before .is-letter4 .ensures) ∙ c .before .if5 .left)))
 
 pub number-literal-with-suffix-spec : {M : Type 1} → statement M
 number-literal-with-suffix-spec =
     tie.close
     (tie.spec
-    run-end-requires
-    char-at-requires
-    is-letter-requires
+    (λ c κs. search needs)
+    (λ c κs. search needs)
+    (λ c κs. search needs)
     add-number-literal
     number-literal-requires
     returns
-    is-letter-requires-2
+    (λ c κs. search needs)
     add-number-literal-2
     number-literal-requires-2
     returns-2
     sub-last
     shared-slice-read-suffix
-    is-letter-requires-3
-    run-end-requires-2
+    (λ c κs. search needs)
+    (λ c κs. search needs)
     returns-3
     number-literal-requires-3
     returns-4
-    is-letter-requires-4
+    (λ c κs. search needs)
     number-literal-requires-4
     returns-5
     number-literal-requires-5

@@ -18,47 +18,17 @@ byte c = omega (arith, c .shared-slice-known2 .given (c .before .before .before 
 returns : tie.Need-returns
 returns c = scanned-end _ _ (c .if1 .taken)
 
-shared-slice-read-c : tie.Need-shared-slice-read-c
-shared-slice-read-c c = search needs
-
-is-whitespace-requires : tie.Need-is-whitespace-requires
-is-whitespace-requires c κs = search needs
-
-add-run-end : tie.Need-add-run-end
-add-run-end c = search needs
-
-run-end-requires : tie.Need-run-end-requires
-run-end-requires c κs = search needs
-
 returns-2 : tie.Need-returns-2
 returns-2 c = run-end-is _ _ _ _ (c .run-end .ensures) 32 ∙ scanned-at _ _ (c .before .before .before .before .if1 .left) (token-blank _ _ (byte (c .before .before .before)) (sym (c .before .before .is-whitespace .ensures) ∙ c .before .if2 .taken))
 
-is-identifier-first-requires : tie.Need-is-identifier-first-requires
-is-identifier-first-requires c κs = search needs
-
-add-run-end-2 : tie.Need-add-run-end-2
-add-run-end-2 c = search needs
-
-run-end-requires-2 : tie.Need-run-end-requires-2
-run-end-requires-2 c κs = search needs
-
 returns-3 : tie.Need-returns-3
 returns-3 c = run-end-is _ _ _ _ (c .run-end2 .ensures) 97 ∙ scanned-at _ _ (c .before .before .before .before .before .before .if1 .left) (token-word _ _ (byte (c .before .before .before .before .before)) (sym (c .before .before .is-identifier-first .ensures) ∙ c .before .if3 .taken))
-
-is-decimal-digit-requires : tie.Need-is-decimal-digit-requires
-is-decimal-digit-requires c κs = search needs
 
 number-requires : tie.Need-number-requires
 number-requires c κs = ((c .before .before .before .before .before .before .before .if1 .left), refl, (sym (c .before .is-decimal-digit .ensures) ∙ c .if4 .taken))
 
 returns-4 : tie.Need-returns-4
 returns-4 c = c .number .ensures ∙ scanned-at _ _ (c .before .before .before .before .before .before .before .before .if1 .left) (token-number _ _ (byte (c .before .before .before .before .before .before .before)) (sym (c .before .before .is-decimal-digit .ensures) ∙ c .before .if4 .taken))
-
-is-punctuation-requires : tie.Need-is-punctuation-requires
-is-punctuation-requires c κs = search needs
-
-add-t20 : tie.Need-add-t20
-add-t20 c = search needs
 
 returns-5 : tie.Need-returns-5
 returns-5 c =
@@ -67,23 +37,8 @@ returns-5 c =
     (λ n. line-scanned _ _ (eqb-true _ 10 n) ∙ scanned-at _ _ (c .before .before .before .before .before .before .before .before .before .if1 .left) (token-line _ _ (eqb-true _ 10 n)))
     (one-of _ _ (c .if5 .taken))
 
-add-run-end-3 : tie.Need-add-run-end-3
-add-run-end-3 c = search needs
-
-run-end-requires-3 : tie.Need-run-end-requires-3
-run-end-requires-3 c κs = search needs
-
 returns-6 : tie.Need-returns-6
 returns-6 c = run-end-is _ _ _ _ (c .run-end3 .ensures) 59 ∙ scanned-at _ _ (c .before .before .before .before .before .before .before .before .before .before .before .if1 .left) (token-comment _ _ (c .before .if6 .taken))
-
-add-run-end-4 : tie.Need-add-run-end-4
-add-run-end-4 c = search needs
-
-run-end-requires-4 : tie.Need-run-end-requires-4
-run-end-requires-4 c κs = search needs
-
-char-at-requires : tie.Need-char-at-requires
-char-at-requires c κs = search needs
 
 add-t24 : tie.Need-add-t24
 add-t24 c = omega (arith, string-room _ _ _ (c .before .before .run-end4 .ensures) (sym (c .before .char-at .ensures) ∙ c .if8 .taken))
@@ -97,9 +52,6 @@ returns-8 c = string-unclosed _ _ _ (c .before .before .run-end4 .ensures) (λ q
 cast-t25 : tie.Need-cast-t25
 cast-t25 c = omega (arith, byte (c .before .before .before .before .before .before .before .before .before .before))
 
-add-t9 : tie.Need-add-t9
-add-t9 c = search needs
-
 returns-9 : tie.Need-returns-9
 returns-9 c =
     let o = off _ _ (c .before .before .if5 .left) in
@@ -111,30 +63,30 @@ scan-spec =
     tie.close
     (tie.spec
     returns
-    shared-slice-read-c
-    is-whitespace-requires
-    add-run-end
-    run-end-requires
+    (λ c. search needs)
+    (λ c κs. search needs)
+    (λ c. search needs)
+    (λ c κs. search needs)
     returns-2
-    is-identifier-first-requires
-    add-run-end-2
-    run-end-requires-2
+    (λ c κs. search needs)
+    (λ c. search needs)
+    (λ c κs. search needs)
     returns-3
-    is-decimal-digit-requires
+    (λ c κs. search needs)
     number-requires
     returns-4
-    is-punctuation-requires
-    add-t20
+    (λ c κs. search needs)
+    (λ c. search needs)
     returns-5
-    add-run-end-3
-    run-end-requires-3
+    (λ c. search needs)
+    (λ c κs. search needs)
     returns-6
-    add-run-end-4
-    run-end-requires-4
-    char-at-requires
+    (λ c. search needs)
+    (λ c κs. search needs)
+    (λ c κs. search needs)
     add-t24
     returns-7
     returns-8
     cast-t25
-    add-t9
+    (λ c. search needs)
     returns-9)

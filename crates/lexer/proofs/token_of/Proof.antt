@@ -12,12 +12,6 @@ use borrow.Author.Needs.{needs}
 use Rattle.lexer.proofs.token_of.Statement.{statement}
 use Rattle.lexer.proofs.token_of.Tie as tie
 
-cast-t6 : tie.Need-cast-t6
-cast-t6 c = search needs
-
-cast-t23 : tie.Need-cast-t23
-cast-t23 c = search needs
-
 returns : tie.Need-returns
 unfolding tokenOf
 returns c = rw (c .match .keys1)
@@ -131,8 +125,8 @@ pub token-of-spec : {M : Type 1} → statement M
 token-of-spec =
     tie.close
     (tie.spec
-    cast-t6
-    cast-t23
+    (λ c. search needs)
+    (λ c. search needs)
     returns
     returns-2
     returns-3

@@ -16,9 +16,6 @@ shared-slice-read-lower c =
     let l = c .before .before .before .pre in
     ⊎-elim (λ w. let h = w .0 .taken in let e = w .1 in omega arith) (λ w. let e = w .1 in omega arith) (c .before .if1 .came)
 
-lower-requires : tie.Need-lower-requires
-lower-requires c κs = search needs
-
 returns : tie.Need-returns
 returns c =
     let a = c .before .before .before .before .before .args in
@@ -32,4 +29,4 @@ returns-2 c =
     sym (lower-at (now (a .word)) (a .i) ∙ ap lower (List·getD-eq-default (now (a .word)) 0 (c .if2 .left)))
 
 pub letter-at-spec : {M : Type 1} → statement M
-letter-at-spec = tie.close (tie.spec shared-slice-read-lower lower-requires returns returns-2)
+letter-at-spec = tie.close (tie.spec shared-slice-read-lower (λ c κs. search needs) returns returns-2)

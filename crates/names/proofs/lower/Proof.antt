@@ -14,12 +14,9 @@ returns-2 : tie.Need-returns-2
 unfolding lower within
 returns-2 c = simp (le-leb 65 (c .before .before .args .c) (omega arith), lt-leb (c .before .before .args .c) 90 (omega arith))
 
-add-result : tie.Need-add-result
-add-result c = search needs
-
 returns-3 : tie.Need-returns-3
 unfolding lower within
 returns-3 c = simp (le-leb 65 (c .before .before .args .c) (omega arith), le-leb (c .before .before .args .c) 90 (omega arith))
 
 pub lower-spec : {M : Type 1} → statement M
-lower-spec = tie.close (tie.spec returns returns-2 add-result returns-3)
+lower-spec = tie.close (tie.spec returns returns-2 (λ c. search needs) returns-3)

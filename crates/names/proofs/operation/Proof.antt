@@ -7,17 +7,11 @@ use Rattle.names.proofs.Rows.{operates-by}
 use Rattle.names.proofs.operation.Statement.{statement}
 use Rattle.names.proofs.operation.Tie as tie
 
-word-key-requires : tie.Need-word-key-requires
-word-key-requires c κs = search needs
-
-operation-by-requires : tie.Need-operation-by-requires
-operation-by-requires c κs = search needs
-
 returns : tie.Need-returns
 returns c =
-    let a = c .before .before .before in
+    let a = c .before .before .before .before in
     c .operation-by .ensures
-    ∙ ap foundOf (operates-by (now (a .args .table)) (a .pre) (now (a .args .word)) (c .before .before .shared-slice-known .given) (c .before .word-key .ensures .0))
+    ∙ ap foundOf (operates-by (now (a .args .table)) (a .pre) (now (a .args .word)) (c .before .before .shared-slice-known2 .given) (c .before .word-key .ensures .0))
 
 pub operation-spec : {M : Type 1} → statement M
-operation-spec = tie.close (tie.spec word-key-requires operation-by-requires returns)
+operation-spec = tie.close (tie.spec (λ c κs. search needs) (λ c κs. search needs) returns)

@@ -1,11 +1,10 @@
 -- No row has the key 0. Of any other, the search leaves one row that may have it.
 use borrow.Author.Needs.{needs}
-use mathlib.Core.Path.{_≡_, sym, ap, _∙_}
-use Prim.Native.Nat.{ℕ, _+_, _*_, _%_, _/_, _<_}
+use mathlib.Core.Path.{_≡_, ap, _∙_}
+use Prim.Native.Nat.{_+_, _*_, _%_, _/_, _<_}
 use native.Mathlib.Omega.{arith}
 use denote.Ref.{now}
 use lib.ListN.{getD}
-use Rattle.names.specs.declared.Found.{Found}
 use Rattle.names.specs.declared.Found.the-variants.{Operation}
 use Rattle.names.specs.Names.{foundOf}
 use Rattle.names.specs.Keys.{keyAt}
@@ -15,20 +14,11 @@ use Rattle.names.proofs.operation_by.Statement.{statement}
 use Rattle.names.proofs.operation_by.Tie as tie
 
 returns : tie.Need-returns
-returns c = let a = c .before in ap foundOf (null-key (now (a .args .table)) (a .pre .0) (a .args .key) (c .if1 .taken))
-
-search-requires : tie.Need-search-requires
-search-requires c κs = search needs
-
-row-at-requires : tie.Need-row-at-requires
-row-at-requires c κs = search needs
-
-cast-t8 : tie.Need-cast-t8
-cast-t8 c = search needs
+returns c = let a = c .before .before in ap foundOf (null-key (now (a .args .table)) (a .pre .0) (a .args .key) (c .if1 .taken))
 
 returns-2 : tie.Need-returns-2
 returns-2 c =
-    let a = c .before .before .before .before in
+    let a = c .before .before .before .before .before in
     let t = now (a .args .table) in
     let k = c .before .before .search .result in
     let r = c .before .row-at in
@@ -41,7 +31,7 @@ returns-2 c =
 
 returns-3 : tie.Need-returns-3
 returns-3 c =
-    let a = c .before .before .before .before in
+    let a = c .before .before .before .before .before in
     let t = now (a .args .table) in
     let f = c .before .before .search in
     let k = f .result in
@@ -52,4 +42,4 @@ returns-3 c =
     ap foundOf (nowhere t (a .pre .0) (a .args .key) k (f .ensures .0) (f .ensures .1) (λ p. c .if2 .left (q ∙ p)))
 
 pub operation-by-spec : {M : Type 1} → statement M
-operation-by-spec = tie.close (tie.spec returns search-requires row-at-requires cast-t8 returns-2 returns-3)
+operation-by-spec = tie.close (tie.spec returns (λ c κs. search needs) (λ c κs. search needs) (λ c. search needs) returns-2 returns-3)

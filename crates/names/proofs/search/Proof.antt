@@ -1,119 +1,96 @@
--- Rows before `row` have lower keys, and rows from `row + rows` on have higher ones; the keys rise, so one probe settles a side.
--- Where one row is left, no other can have the key. The measure is the number of rows left.
+-- Seven halvings leave one row of at most 128.
 use borrow.Author.Needs.{needs}
-use mathlib.Core.Path.{_≡_, refl, subst, sym, _∙_}
-use mathlib.Core.Bool.{Bool, true, false}
-use mathlib.Core.List.{List}
-use mathlib.Core.Logic.{_⊎_, inl, inr, ⊎-elim}
-use Prim.Native.Nat.{ℕ, _+_, _*_, _-_, _/_, _≤_, _<_}
-use native.Mathlib.Nat.{lt-of-lt-of-le, lt-trans, eq-or-lt-of-le}
+use Prim.Native.Nat.{_+_, _*_}
 use native.Mathlib.Omega.{arith}
 use denote.Ref.{now}
-use lib.Dec.{ltb}
-use borrow.Author.Tests.{ltb-true, ltb-false}
-use lib.ListN.{getD}
-use Rattle.names.specs.Keys.{key, keyAt, eight, goodTable}
-use Rattle.names.proofs.Keys.{eight-key}
-use Rattle.names.proofs.Rows.{rising}
+use Rattle.names.specs.Names.{rowsIn}
+use Rattle.names.proofs.Rows.{few-rows}
+use Rattle.names.proofs.Halves.{Bounds, all-rows, narrows, one, half-most}
 use Rattle.names.proofs.search.Statement.{statement}
 use Rattle.names.proofs.search.Tie as tie
 
-record Bounds (t : List ℕ) (key row rows : ℕ) : Type 0 where
-  pub left : 1 ≤ rows
-  pub within : row + rows ≤ 117
-  pub low : (k : ℕ) → k < row → keyAt t k < key
-  pub high : (k : ℕ) → row + rows ≤ k → k < 117 → key < keyAt t k
+bounds : (c : tie.After-shared-slice-known) → let a = c .before .args in Bounds (now (a .table)) (a .key) 0 (rowsIn (now (a .table)))
+bounds c = all-rows (now (c .before .args .table)) (c .before .pre .0) (c .before .args .key)
 
-below-or : (k n : ℕ) → (k < n) ⊎ (n ≤ k)
-below-or k n = by (ltb k n) (ltb-true k n) (ltb-false k n)
-  where
-    by : (b : Bool) → (b ≡ true → k < n) → (b ≡ false → n ≤ k) → (k < n) ⊎ (n ≤ k)
-    by true f g = inl (f refl)
-    by false f g = inr (g refl)
+bounds-1 : (c : tie.After-halved) → let a = c .before .before .args in Bounds (now (a .table)) (a .key) (c .halved .result .row) (c .halved .result .rows)
+bounds-1 c =
+    let start = c .before .before in
+    narrows (now (start .args .table)) (start .pre .0) (λ i. omega (arith, c .before .shared-slice-known .given i)) (start .args .key) (bounds (c .before)) (c .halved .ensures)
 
-module _ (t : List ℕ) (good : goodTable t ≡ true) (key row rows : ℕ) (b : Bounds t key row rows) where
-  -- the row in the middle is not above the key, or it is
-  up : keyAt t (row + rows / 2) ≤ key → Bounds t key (row + rows / 2) (rows - rows / 2)
-  up h =
-      record {
-        left = omega arith;
-        within = omega arith;
-        low = λ k l. lt-of-lt-of-le (rising t good k (row + rows / 2) l (omega arith)) h;
-        high = λ k l m. b .high k (omega arith) m;
-      }
+bounds-2 : (c : tie.After-halved2) → let a = c .before .before .before .args in Bounds (now (a .table)) (a .key) (c .halved2 .result .row) (c .halved2 .result .rows)
+bounds-2 c =
+    let start = c .before .before .before in
+    narrows (now (start .args .table)) (start .pre .0) (λ i. omega (arith, c .before .before .shared-slice-known .given i)) (start .args .key) (bounds-1 (c .before)) (c .halved2 .ensures)
 
-  down : 1 < rows → key < keyAt t (row + rows / 2) → Bounds t key row (rows - rows / 2)
-  down n h =
-      record {
-        left = omega arith;
-        within = omega arith;
-        low = b .low;
-        high =
-            λ k l m.
-            ⊎-elim
-            (λ e. subst (λ (i : ℕ). key < keyAt t i) e h)
-            (λ s. lt-trans h (rising t good (row + rows / 2) k s m))
-            (eq-or-lt-of-le (let o : row + rows / 2 ≤ k = omega arith in o));
-      }
+bounds-3 : (c : tie.After-halved3) → let a = c .before .before .before .before .args in Bounds (now (a .table)) (a .key) (c .halved3 .result .row) (c .halved3 .result .rows)
+bounds-3 c =
+    let start = c .before .before .before .before in
+    narrows (now (start .args .table)) (start .pre .0) (λ i. omega (arith, c .before .before .before .shared-slice-known .given i)) (start .args .key) (bounds-2 (c .before)) (c .halved3 .ensures)
 
-  one : rows ≤ 1 → (k : ℕ) → k < 117 → keyAt t k ≡ key → k ≡ row
-  one n k l e =
-      ⊎-elim
-      (λ s. absurd (let h : keyAt t k < key = b .low k s in omega arith))
-      (λ q.
-      ⊎-elim
-      sym
-      (λ s. absurd (let h : key < keyAt t k = b .high k (omega arith) l in omega arith))
-      (eq-or-lt-of-le q))
-      (below-or k row)
+bounds-4 : (c : tie.After-halved4) → let a = c .before .before .before .before .before .args in Bounds (now (a .table)) (a .key) (c .halved4 .result .row) (c .halved4 .result .rows)
+bounds-4 c =
+    let start = c .before .before .before .before .before in
+    narrows (now (start .args .table)) (start .pre .0) (λ i. omega (arith, c .before .before .before .before .shared-slice-known .given i)) (start .args .key) (bounds-3 (c .before)) (c .halved4 .ensures)
 
-abbrev Inv-loop : tie.InvT-loop
-Inv-loop table key most row₀ rows₀ row rows = Bounds table key row rows
+bounds-5 : (c : tie.After-halved5) → let a = c .before .before .before .before .before .before .args in Bounds (now (a .table)) (a .key) (c .halved5 .result .row) (c .halved5 .result .rows)
+bounds-5 c =
+    let start = c .before .before .before .before .before .before in
+    narrows (now (start .args .table)) (start .pre .0) (λ i. omega (arith, c .before .before .before .before .before .shared-slice-known .given i)) (start .args .key) (bounds-4 (c .before)) (c .halved5 .ensures)
 
-abbrev μ-loop : tie.MeasureT-loop
-μ-loop table key most row₀ rows₀ row rows = rows
+bounds-6 : (c : tie.After-halved6) → let a = c .before .before .before .before .before .before .before .args in Bounds (now (a .table)) (a .key) (c .halved6 .result .row) (c .halved6 .result .rows)
+bounds-6 c =
+    let start = c .before .before .before .before .before .before .before in
+    narrows (now (start .args .table)) (start .pre .0) (λ i. omega (arith, c .before .before .before .before .before .before .shared-slice-known .given i)) (start .args .key) (bounds-5 (c .before)) (c .halved6 .ensures)
 
-mul-most : tie.Need-mul-most Inv-loop μ-loop
-mul-most c = search needs
+bounds-7 : (c : tie.After-halved7) → let a = c .before .before .before .before .before .before .before .before .args in Bounds (now (a .table)) (a .key) (c .halved7 .result .row) (c .halved7 .result .rows)
+bounds-7 c =
+    let start = c .before .before .before .before .before .before .before .before in
+    narrows (now (start .args .table)) (start .pre .0) (λ i. omega (arith, c .before .before .before .before .before .before .before .shared-slice-known .given i)) (start .args .key) (bounds-6 (c .before)) (c .halved7 .ensures)
 
-add-most : tie.Need-add-most Inv-loop μ-loop
-add-most c = search needs
+halved-requires : tie.Need-halved-requires
+halved-requires c κs = (bounds c .left, bounds c .within)
 
-loop-holds : tie.Need-loop-holds Inv-loop μ-loop
-loop-holds c = record { left = omega arith; within = omega arith; low = λ k h. absurd (omega arith); high = λ k h l. absurd (omega arith) }
+halved-requires-2 : tie.Need-halved-requires-2
+halved-requires-2 c κs = (bounds-1 c .left, bounds-1 c .within)
 
-add-mid : tie.Need-add-mid Inv-loop μ-loop
-add-mid c = search needs
+halved-requires-3 : tie.Need-halved-requires-3
+halved-requires-3 c κs = (bounds-2 c .left, bounds-2 c .within)
 
-row-at-requires : tie.Need-row-at-requires Inv-loop μ-loop
-row-at-requires c κs = search needs
+halved-requires-4 : tie.Need-halved-requires-4
+halved-requires-4 c κs = (bounds-3 c .left, bounds-3 c .within)
 
-sub-rows : tie.Need-sub-rows Inv-loop μ-loop
-sub-rows c = search needs
+halved-requires-5 : tie.Need-halved-requires-5
+halved-requires-5 c κs = (bounds-4 c .left, bounds-4 c .within)
 
-loop-less : tie.Need-loop-less Inv-loop μ-loop
-loop-less c = search needs
+halved-requires-6 : tie.Need-halved-requires-6
+halved-requires-6 c κs = (bounds-5 c .left, bounds-5 c .within)
 
-loop-again : tie.Need-loop-again Inv-loop μ-loop
-loop-again c =
-    let a = c .before .before .before .before in
-    let l = c .before .before .before .loop in
-    let t = now (a .args .table) in
-    let r = c .before .row-at in
-    let e : r .result ≡ keyAt t (l .row + l .rows / 2) * 256 + getD t (8 * (l .row + l .rows / 2) + 7) 0 = r .ensures .0 ∙ eight-key t (8 * (l .row + l .rows / 2)) in
-    let s : getD t (8 * (l .row + l .rows / 2) + 7) 0 < 256 = r .ensures .1 in
-    let n = c .before .before .loop-test .taken in
-    ⊎-elim
-    (λ w. let h = w .0 .taken in subst (λ (i : ℕ). Bounds t (a .args .key) i (l .rows - l .rows / 2)) (sym (w .1)) (up t (a .pre .0) (a .args .key) (l .row) (l .rows) (l .inv) (omega arith)))
-    (λ w. let h = w .0 .left in subst (λ (i : ℕ). Bounds t (a .args .key) i (l .rows - l .rows / 2)) (sym (w .1)) (down t (a .pre .0) (a .args .key) (l .row) (l .rows) (l .inv) (omega arith) (omega arith)))
-    (c .if1 .came)
+halved-requires-7 : tie.Need-halved-requires-7
+halved-requires-7 c κs = (bounds-6 c .left, bounds-6 c .within)
 
-returns : tie.Need-returns Inv-loop μ-loop
+returns : tie.Need-returns
 returns c =
-    let a = c .before .before in
-    let l = c .before .loop in
-    (omega arith, one (now (a .args .table)) (a .pre .0) (a .args .key) (l .row) (l .rows) (l .inv) (omega arith))
+    let start = c .before .before .before .before .before .before .before .before in
+    let m1 = half-most (now (start .args .table)) (start .args .key * 256 + 255) 0 (rowsIn (now (start .args .table))) 64 (c .before .before .before .before .before .before .halved .ensures) (few-rows (now (start .args .table)) (start .pre .0)) in
+    let m2 = half-most (now (start .args .table)) (start .args .key * 256 + 255) (c .before .before .before .before .before .before .halved .result .row) (c .before .before .before .before .before .before .halved .result .rows) 32 (c .before .before .before .before .before .halved2 .ensures) (m1) in
+    let m3 = half-most (now (start .args .table)) (start .args .key * 256 + 255) (c .before .before .before .before .before .halved2 .result .row) (c .before .before .before .before .before .halved2 .result .rows) 16 (c .before .before .before .before .halved3 .ensures) (m2) in
+    let m4 = half-most (now (start .args .table)) (start .args .key * 256 + 255) (c .before .before .before .before .halved3 .result .row) (c .before .before .before .before .halved3 .result .rows) 8 (c .before .before .before .halved4 .ensures) (m3) in
+    let m5 = half-most (now (start .args .table)) (start .args .key * 256 + 255) (c .before .before .before .halved4 .result .row) (c .before .before .before .halved4 .result .rows) 4 (c .before .before .halved5 .ensures) (m4) in
+    let m6 = half-most (now (start .args .table)) (start .args .key * 256 + 255) (c .before .before .halved5 .result .row) (c .before .before .halved5 .result .rows) 2 (c .before .halved6 .ensures) (m5) in
+    let m7 = half-most (now (start .args .table)) (start .args .key * 256 + 255) (c .before .halved6 .result .row) (c .before .halved6 .result .rows) 1 (c .halved7 .ensures) (m6) in
+    (omega (arith, bounds-7 c .left, bounds-7 c .within), one (now (start .args .table)) (start .pre .0) (start .args .key) (c .halved7 .result .row) (c .halved7 .result .rows) (bounds-7 c) m7)
 
 pub search-spec : {M : Type 1} → statement M
 search-spec =
-    tie.close (tie.spec Inv-loop μ-loop mul-most add-most loop-holds add-mid row-at-requires sub-rows loop-less loop-again returns)
+    tie.close
+    (tie.spec
+    (λ c. search needs)
+    (λ c. search needs)
+    halved-requires
+    halved-requires-2
+    halved-requires-3
+    halved-requires-4
+    halved-requires-5
+    halved-requires-6
+    halved-requires-7
+    returns)

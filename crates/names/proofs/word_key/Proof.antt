@@ -2,12 +2,12 @@
 use borrow.Author.Needs.{needs}
 use mathlib.Core.Path.{_≡_, sym, ap, _∙_}
 use mathlib.Core.List.{List, map}
-use Prim.Native.Nat.{ℕ, _≤_, _<_, _-_}
+use Prim.Native.Nat.{ℕ, _<_, _-_}
 use native.Mathlib.Omega.{arith}
 use denote.Ref.{now}
 use lib.ListN.{length, getD, length-map, List·getD-eq-default}
 use Rattle.lexer.specs.Text.{lower}
-use Rattle.names.specs.Keys.{keyOf, seven}
+use Rattle.names.specs.Keys.{keyOf}
 use Rattle.names.proofs.Keys.{seven-key, long, null, whole, bounded, lower-small}
 use Rattle.names.proofs.word_key.Statement.{statement}
 use Rattle.names.proofs.word_key.Tie as tie
@@ -27,19 +27,10 @@ returns-2 c =
     let w = now (c .before .before .before .args .word) in
     (long (map lower w) (omega (arith, length-map w lower)), omega arith)
 
-sub-letter-at : tie.Need-sub-letter-at
-sub-letter-at c = search needs
-
-letter-at-requires : tie.Need-letter-at-requires
-letter-at-requires c κs = search needs
-
 returns-3 : tie.Need-returns-3
 returns-3 c =
     let w = now (c .before .before .before .before .before .args .word) in
     (null (map lower w) (last w ∙ sym (c .before .letter-at .ensures) ∙ c .if3 .taken), omega arith)
-
-letters-requires : tie.Need-letters-requires
-letters-requires c κs = search needs
 
 returns-4 : tie.Need-returns-4
 returns-4 c =
@@ -52,4 +43,4 @@ returns-4 c =
     (e, omega (arith, e, bounded (map lower w) (lower-small w (c .before .before .before .before .before .shared-slice-known .given))))
 
 pub word-key-spec : {M : Type 1} → statement M
-word-key-spec = tie.close (tie.spec returns returns-2 sub-letter-at letter-at-requires returns-3 letters-requires returns-4)
+word-key-spec = tie.close (tie.spec returns returns-2 (λ c. search needs) (λ c κs. search needs) returns-3 (λ c κs. search needs) returns-4)

@@ -11,49 +11,14 @@ use Rattle.printing.proofs.Room.{refusal-most}
 use Rattle.printing.proofs.Answers.{said, written, denied}
 use Rattle.printing.proofs.answer_text.Statement.{statement}
 use Rattle.printing.proofs.answer_text.Tie as tie
-use Rattle.printing.proofs.answer_text.Reads as reads
-use Rattle.printing.proofs.answer_text.Lts as lts
-use Rattle.reader.proofs.full_read.Reads as full-read-reads
-use Rattle.printing.proofs.listing_text.Reads as listing-text-reads
-use Rattle.printing.proofs.refusal_text.Reads as refusal-text-reads
 
 -- what the full read wrote
 written′ : (c : tie.After-n) → let a = c .before .before .before .before .before .before .before .before .before .args in
     WritesAs (now (a .source)) (c .before .before .before .before .full-read .last .1 .0) (Written (c .n .given .0 .0))
-written′ c = rw (c .n .given .1) at (c .before .before .before .before .full-read .ensures .1 .1 .so)
-
-full-read-requires : tie.Need-full-read-requires
-full-read-requires c κs = search needs
-
-enum-known-n : tie.Need-enum-known-n
-enum-known-n c = search needs
-
-cast-end : tie.Need-cast-end
-cast-end c = search needs
-
-sub-listing-text : tie.Need-sub-listing-text
-sub-listing-text c = search needs
-
-part-listing-text-start : tie.Need-part-listing-text-start
-part-listing-text-start c = search needs
+written′ c = rw (c .n .given .1) at (c .before .before .before .before .full-read .ensures .written .so)
 
 part-listing-text-end : tie.Need-part-listing-text-end
 part-listing-text-end c = written′ (c .before .before) .0
-
-listing-text-requires : tie.Need-listing-text-requires
-listing-text-requires c κs = search needs
-
-enum-known-r : tie.Need-enum-known-r
-enum-known-r c = search needs
-
-refusal-text-requires : tie.Need-refusal-text-requires
-refusal-text-requires c κs = search needs
-
-same-length : tie.Need-same-length
-same-length c = search needs
-
-same-length-2 : tie.Need-same-length-2
-same-length-2 c = search needs
 
 returns : tie.Need-returns
 returns c =
@@ -62,43 +27,37 @@ returns c =
     let l′ = c .before .before .before .before .before .before .before .before .before .before .before .full-read .last .1 .0 in
     let n = c .before .before .before .before .before .before .before .n .given .0 .0 in
     let d : n - 0 ≡ n = omega arith in
-    let e = written (now (a .source)) (now (a .listing)) l′ (sym (c .before .before .before .before .before .before .before .n .given .1) ∙ f .0) (f .1 .0) in
+    let e = written (now (a .source)) (now (a .listing)) l′ (sym (c .before .before .before .before .before .before .before .n .given .1) ∙ f .answer) (f .buffer) in
     let h = rw (d, e) at (c .before .before .listing-text .ensures .0) in
     let k = rw (d, e) at (c .before .before .listing-text .ensures .1) in
     let w = said (6 * length (now (a .listing)) + 109) h (omega (arith, k, length-take n l′)) in
-    (w .1, (h, (w .0, f .1 .0)))
-
-same-length-3 : tie.Need-same-length-3
-same-length-3 c = search needs
-
-same-length-4 : tie.Need-same-length-4
-same-length-4 c = search needs
+    (w .1, (h, (w .0, f .buffer)))
 
 returns-2 : tie.Need-returns-2
 returns-2 c =
     let a = c .before .before .before .before .before .before .before .before .before .before .before .before .before .before .args in
     let r = c .before .before .before .before .before .r .given .0 .0 in
-    let e = denied (now (a .source)) (now (a .listing)) (now (a .listing)) (sym (c .before .before .before .before .before .r .given .1) ∙ c .before .before .before .before .before .before .before .before .before .full-read .ensures .0) in
+    let e = denied (now (a .source)) (now (a .listing)) (now (a .listing)) (sym (c .before .before .before .before .before .r .given .1) ∙ c .before .before .before .before .before .before .before .before .before .full-read .ensures .answer) in
     let h = rw e at (c .before .before .refusal-text .ensures) in
     let w = said (6 * length (now (a .listing)) + 109) h (rw (sym e) (omega (arith, refusal-most (r .number) (r .from) (r .to) (r .first) (r .second)))) in
-    (w .1, (h, (w .0, c .before .before .before .before .before .before .before .before .before .full-read .ensures .1 .0)))
+    (w .1, (h, (w .0, c .before .before .before .before .before .before .before .before .before .full-read .ensures .buffer)))
 
 pub answer-text-spec : {M : Type 1} → statement M
 answer-text-spec =
     tie.close
     (tie.spec
-    full-read-requires
-    enum-known-n
-    cast-end
-    sub-listing-text
-    part-listing-text-start
+    (λ c κs. search needs)
+    (λ c. search needs)
+    (λ c. search needs)
+    (λ c. search needs)
+    (λ c. search needs)
     part-listing-text-end
-    listing-text-requires
-    enum-known-r
-    refusal-text-requires
-    same-length
-    same-length-2
+    (λ c κs. search needs)
+    (λ c. search needs)
+    (λ c κs. search needs)
+    (λ c. search needs)
+    (λ c. search needs)
     returns
-    same-length-3
-    same-length-4
+    (λ c. search needs)
+    (λ c. search needs)
     returns-2)

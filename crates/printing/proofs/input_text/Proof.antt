@@ -10,23 +10,11 @@ use lib.ListN.{take}
 use Rattle.printing.proofs.Answers.{cut-off, not-cut-off, all-said}
 use Rattle.printing.proofs.input_text.Statement.{statement}
 use Rattle.printing.proofs.input_text.Tie as tie
-use Rattle.printing.proofs.input_text.Reads as reads
-use Rattle.printing.proofs.input_text.Lts as lts
-use Rattle.printing.proofs.answer_text.Reads as answer-text-reads
-
-sub-answer-text : tie.Need-sub-answer-text
-sub-answer-text c = search needs
-
-part-answer-text-start : tie.Need-part-answer-text-start
-part-answer-text-start c = search needs
 
 part-answer-text-end : tie.Need-part-answer-text-end
 part-answer-text-end c =
     let long = c .before .whole .given .0 in
     ⊎-elim (λ w. let e = w .1 in omega arith) (λ w. let h = w .0 .left in let e = w .1 in omega arith) (c .before .before .if1 .came)
-
-answer-text-requires : tie.Need-answer-text-requires
-answer-text-requires c κs = search needs
 
 returns : tie.Need-returns
 returns c =
@@ -42,8 +30,8 @@ pub input-text-spec : {M : Type 1} → statement M
 input-text-spec =
     tie.close
     (tie.spec
-    sub-answer-text
-    part-answer-text-start
+    (λ c. search needs)
+    (λ c. search needs)
     part-answer-text-end
-    answer-text-requires
+    (λ c κs. search needs)
     returns)

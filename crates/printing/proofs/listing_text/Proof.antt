@@ -6,18 +6,15 @@ use native.Mathlib.Omega.{arith}
 use borrow.Author.Needs.{needs}
 use denote.Ref.{now}
 use lib.ListN.{length, take, drop, drop-of-length-le}
-use Rattle.printing.specs.Text.{Wrote}
+use Rattle.text.specs.Text.{Put}
 use Rattle.printing.specs.Lines.{textOf, recordsIn}
 use Rattle.printing.specs.Shapes.{Printed}
-use Rattle.printing.proofs.Writes.{wrote-length, holds}
+use Rattle.text.proofs.Puts.{wrote-length}
+use Rattle.printing.proofs.Holds.{holds}
 use Rattle.printing.proofs.Shapes.{tail}
 use Rattle.printing.proofs.Records.{Begun, begun, begun-more, ended, ended-short, records-none}
 use Rattle.printing.proofs.listing_text.Statement.{statement}
 use Rattle.printing.proofs.listing_text.Tie as tie
-use Rattle.printing.proofs.listing_text.Reads as reads
-use Rattle.printing.proofs.listing_text.Lts as lts
-use Rattle.printing.proofs.put_end.Reads as put-end-reads
-use Rattle.printing.proofs.put_record.Reads as put-record-reads
 
 abbrev Inv-loop : tie.InvT-loop
 Inv-loop listing out₀ at₀ to₀ count₀ out at to count = Begun listing at count out₀ out to
@@ -45,7 +42,7 @@ none-left c =
     let l = c .before .before .before .before .before .before .before .before .before .before .before .before .loop in
     records-none (drop (l .at) b) (rw (tail (l .at) b) at ((rw (c .before .before .before .before .enum-told .given .1) at (c .before .before .before .before .before .before .before .before .put-record .ensures)) .0))
 
-nothing-more : (c : tie.After-slice-known3 Inv-loop μ-loop) → let a = c .before .before .before .before .before .before .before .before .before .before .before .before .before .before .before .args in Wrote 0 (textOf (recordsIn 0 (now (a .listing)))) (now (a .out)) (c .before .before .put-end .last .0) (c .before .before .put-end .result)
+nothing-more : (c : tie.After-slice-known3 Inv-loop μ-loop) → let a = c .before .before .before .before .before .before .before .before .before .before .before .before .before .before .before .args in Put 0 (textOf (recordsIn 0 (now (a .listing)))) (now (a .out)) (c .before .before .put-end .last .0) (c .before .before .put-end .result)
 nothing-more c =
     let p = rw (c .before .before .before .before .enum-told .given .1) at (c .before .before .before .before .before .before .before .before .put-record .ensures) in
     ended (c .before .before .before .before .before .before .before .before .before .before .before .before .loop .inv) (none-left c) (rw (p .1) at (c .before .before .put-end .ensures))
@@ -53,34 +50,13 @@ nothing-more c =
 -- and at the listing's end
 at-end : (c : tie.After-slice-known4 Inv-loop μ-loop) → recordsIn 0 (drop (c .before .before .before .before .before .loop .at) (now (c .before .before .before .before .before .before .before .before .args .listing))) ≡ []
 unfolding recordsIn
-at-end c = ap (recordsIn 0) (drop-of-length-le (now (c .before .before .before .before .before .before .before .before .args .listing)) (c .before .before .before .before .loop-test .left))
+at-end c = let start = c .before .before .before .before .before .before .before .before in ap (recordsIn 0) (drop-of-length-le (now (start .args .listing)) (c .before .before .before .before .loop-test .left))
 
-all : (c : tie.After-slice-known4 Inv-loop μ-loop) → let a = c .before .before .before .before .before .before .before .before .args in Wrote 0 (textOf (recordsIn 0 (now (a .listing)))) (now (a .out)) (c .before .before .put-end2 .last .0) (c .before .before .put-end2 .result)
+all : (c : tie.After-slice-known4 Inv-loop μ-loop) → let a = c .before .before .before .before .before .before .before .before .args in Put 0 (textOf (recordsIn 0 (now (a .listing)))) (now (a .out)) (c .before .before .put-end2 .last .0) (c .before .before .put-end2 .result)
 all c = ended (c .before .before .before .before .before .loop .inv) (at-end c) (c .before .before .put-end2 .ensures)
 
 loop-holds : tie.Need-loop-holds Inv-loop μ-loop
 loop-holds c = begun _ _
-
-sub-put-record : tie.Need-sub-put-record Inv-loop μ-loop
-sub-put-record c = search needs
-
-part-put-record-start : tie.Need-part-put-record-start Inv-loop μ-loop
-part-put-record-start c = search needs
-
-part-put-record-end : tie.Need-part-put-record-end Inv-loop μ-loop
-part-put-record-end c = search needs
-
-put-record-requires : tie.Need-put-record-requires Inv-loop μ-loop
-put-record-requires c κs = search needs
-
-enum-known-size : tie.Need-enum-known-size Inv-loop μ-loop
-enum-known-size c = search needs
-
-enum-told : tie.Need-enum-told Inv-loop μ-loop
-enum-told c = search needs
-
-put-end-requires : tie.Need-put-end-requires Inv-loop μ-loop
-put-end-requires c κs = search needs
 
 same-length : tie.Need-same-length Inv-loop μ-loop
 same-length c = wrote-length (nothing-more c)
@@ -100,9 +76,6 @@ loop-less c = omega (arith, printed c .long, c .before .before .before .before .
 loop-again : tie.Need-loop-again Inv-loop μ-loop
 loop-again c = next c
 
-put-end-requires-2 : tie.Need-put-end-requires-2 Inv-loop μ-loop
-put-end-requires-2 c κs = search needs
-
 same-length-2 : tie.Need-same-length-2 Inv-loop μ-loop
 same-length-2 c = wrote-length (all c)
 
@@ -116,19 +89,19 @@ listing-text-spec =
     Inv-loop
     μ-loop
     loop-holds
-    sub-put-record
-    part-put-record-start
-    part-put-record-end
-    put-record-requires
-    enum-known-size
-    enum-told
-    put-end-requires
+    (λ c. search needs)
+    (λ c. search needs)
+    (λ c. search needs)
+    (λ c κs. search needs)
+    (λ c. search needs)
+    (λ c. search needs)
+    (λ c κs. search needs)
     same-length
     returns
     add-at
     add-count
     loop-less
     loop-again
-    put-end-requires-2
+    (λ c κs. search needs)
     same-length-2
     returns-2)

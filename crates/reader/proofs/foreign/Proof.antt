@@ -1,6 +1,6 @@
 -- `foreign` finds the first byte above 127, where there is one. The invariant: what is left to search has the same first.
 -- Assumes nothing.
-use Prim.Native.Nat.{_+_, _-_, _≤_}
+use Prim.Native.Nat.{_-_, _≤_}
 use mathlib.Core.Path.{_≡_, refl, sym, _∙_}
 use native.Mathlib.Omega.{arith}
 use borrow.Author.Needs.{needs}
@@ -16,26 +16,14 @@ Inv-loop source i₀ i = (i ≤ length source) × (foreign i (drop i source) ≡
 abbrev μ-loop : tie.MeasureT-loop
 μ-loop source i₀ i = length source - i
 
-is-ascii-requires : tie.Need-is-ascii-requires Inv-loop μ-loop
-is-ascii-requires c κs = search needs
-
 returns : tie.Need-returns Inv-loop μ-loop
 returns c = ascii-place _ (sym (c .before .is-ascii .ensures) ∙ c .if1 .taken)
 
 loop-holds : tie.Need-loop-holds Inv-loop μ-loop
 loop-holds c = (search needs, refl)
 
-shared-slice-read-if2 : tie.Need-shared-slice-read-if2 Inv-loop μ-loop
-shared-slice-read-if2 c = search needs
-
 returns-2 : tie.Need-returns-2 Inv-loop μ-loop
 returns-2 c = place-found _ (sym (c .before .before .before .loop .inv .1) ∙ foreign-here _ _ (c .before .before .loop-test .taken) (c .if2 .taken))
-
-add-i : tie.Need-add-i Inv-loop μ-loop
-add-i c = search needs
-
-loop-less : tie.Need-loop-less Inv-loop μ-loop
-loop-less c = search needs
 
 loop-again : tie.Need-loop-again Inv-loop μ-loop
 loop-again c = (omega arith, foreign-on _ _ (c .before .before .loop-test .taken) (c .if2 .left) ∙ c .before .before .before .loop .inv .1)
@@ -49,12 +37,12 @@ foreign-spec =
     (tie.spec
     Inv-loop
     μ-loop
-    is-ascii-requires
+    (λ c κs. search needs)
     returns
     loop-holds
-    shared-slice-read-if2
+    (λ c. search needs)
     returns-2
-    add-i
-    loop-less
+    (λ c. search needs)
+    (λ c. search needs)
     loop-again
     returns-3)

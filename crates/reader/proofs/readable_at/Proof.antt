@@ -1,27 +1,17 @@
 -- 42 first, then as `readable`.
 -- Assumes nothing.
-use mathlib.Core.Path.{_≡_, refl, sym, ap, _∙_}
+use mathlib.Core.Path.{ap, _∙_}
 use Rattle.reader.specs.declared.Lent.the-variants.{Refused}
 use Rattle.reader.proofs.Lending.{too-far, not-far}
 use borrow.Author.Needs.{needs}
 use Rattle.reader.proofs.readable_at.Statement.{statement}
 use Rattle.reader.proofs.readable_at.Tie as tie
-use Rattle.reader.proofs.readable_at.Reads as reads
-use Rattle.reader.proofs.readable_at.Lts as lts
-use Rattle.reader.proofs.readable.Reads as readable-reads
-use Rattle.parser.proofs.state.refused_at.Reads as refused-at-reads
-
-refused-at-requires : tie.Need-refused-at-requires
-refused-at-requires c κs = search needs
 
 returns : tie.Need-returns
 returns c = ap Refused (c .refused-at .ensures) ∙ too-far _ _ (c .before .if1 .taken)
-
-readable-requires : tie.Need-readable-requires
-readable-requires c κs = search needs
 
 returns-2 : tie.Need-returns-2
 returns-2 c = c .readable .ensures ∙ not-far _ _ (c .before .if1 .left)
 
 pub readable-at-spec : {M : Type 1} → statement M
-readable-at-spec = tie.close (tie.spec refused-at-requires returns readable-requires returns-2)
+readable-at-spec = tie.close (tie.spec (λ c κs. search needs) returns (λ c κs. search needs) returns-2)

@@ -1,38 +1,21 @@
 -- Meets its contract: the bytes stand where there is room for all of them, and nothing is written at the limit.
 -- Assumes nothing.
-use Prim.Native.Nat.{_+_}
-use mathlib.Core.Path.{_≡_, refl, sym, ap, _∙_}
+use mathlib.Core.Path.{refl}
 use native.Mathlib.Omega.{arith}
-use native.Mathlib.Numerals.{add-one}
-use lib.ListN.{length, set, length-set}
 use Rattle.rules.specs.Records.{field}
 use Rattle.records.specs.Writes.{stores}
 use Rattle.records.proofs.Writes.{has-room, no-room, beyond}
 use borrow.Author.Needs.{needs}
 use Rattle.records.proofs.put.Statement.{statement}
 use Rattle.records.proofs.put.Tie as tie
-use Rattle.records.proofs.put.Reads as reads
-use Rattle.records.proofs.put.Lts as lts
 
 returns : tie.Need-returns
 unfolding field
 returns c = beyond (omega (arith, c .if1 .taken))
 
-slice-write-out : tie.Need-slice-write-out
-slice-write-out c = search needs
-
-add-result : tie.Need-add-result
-add-result c = search needs
-
-same-length : tie.Need-same-length
-same-length c = search needs
-
 returns-2 : tie.Need-returns-2
 unfolding stores field
 returns-2 c = has-room refl refl
-
-add-result-2 : tie.Need-add-result-2
-add-result-2 c = search needs
 
 returns-3 : tie.Need-returns-3
 unfolding field
@@ -41,4 +24,4 @@ returns-3 c = no-room (omega (arith, c .if2 .left)) refl
 pub put-spec : {M : Type 1} → statement M
 put-spec =
     tie.close
-    (tie.spec returns slice-write-out add-result same-length returns-2 add-result-2 returns-3)
+    (tie.spec returns (λ c. search needs) (λ c. search needs) (λ c. search needs) returns-2 (λ c. search needs) returns-3)

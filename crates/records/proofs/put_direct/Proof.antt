@@ -6,23 +6,10 @@ use Rattle.records.proofs.Writes.{follows}
 use borrow.Author.Needs.{needs}
 use Rattle.records.proofs.put_direct.Statement.{statement}
 use Rattle.records.proofs.put_direct.Tie as tie
-use Rattle.records.proofs.put_direct.Reads as reads
-use Rattle.records.proofs.put_direct.Lts as lts
-use Rattle.records.proofs.put_field.Reads as put-field-reads
-use Rattle.records.proofs.put_record.Reads as put-record-reads
-
-put-record-requires : tie.Need-put-record-requires
-put-record-requires c κs = search needs
-
-put-field-requires : tie.Need-put-field-requires
-put-field-requires c κs = search needs
-
-same-length : tie.Need-same-length
-same-length c = search needs
 
 returns : tie.Need-returns
 unfolding bytes field fields encode
 returns c = follows _ _ (c .before .before .before .before .before .before .put-record .ensures) (c .before .before .put-field .ensures)
 
 pub put-direct-spec : {M : Type 1} → statement M
-put-direct-spec = tie.close (tie.spec put-record-requires put-field-requires same-length returns)
+put-direct-spec = tie.close (tie.spec (λ c κs. search needs) (λ c κs. search needs) (λ c. search needs) returns)

@@ -6,25 +6,6 @@ use Rattle.records.proofs.Writes.{follows}
 use borrow.Author.Needs.{needs}
 use Rattle.records.proofs.put_instruction.Statement.{statement}
 use Rattle.records.proofs.put_instruction.Tie as tie
-use Rattle.records.proofs.put_instruction.Reads as reads
-use Rattle.records.proofs.put_instruction.Lts as lts
-use Rattle.records.proofs.put_field.Reads as put-field-reads
-use Rattle.records.proofs.put_record.Reads as put-record-reads
-
-put-record-requires : tie.Need-put-record-requires
-put-record-requires c κs = search needs
-
-put-field-requires : tie.Need-put-field-requires
-put-field-requires c κs = search needs
-
-put-field-requires-2 : tie.Need-put-field-requires-2
-put-field-requires-2 c κs = search needs
-
-put-field-requires-3 : tie.Need-put-field-requires-3
-put-field-requires-3 c κs = search needs
-
-same-length : tie.Need-same-length
-same-length c = search needs
 
 returns : tie.Need-returns
 unfolding bytes field fields encode
@@ -34,9 +15,9 @@ pub put-instruction-spec : {M : Type 1} → statement M
 put-instruction-spec =
     tie.close
     (tie.spec
-    put-record-requires
-    put-field-requires
-    put-field-requires-2
-    put-field-requires-3
-    same-length
+    (λ c κs. search needs)
+    (λ c κs. search needs)
+    (λ c κs. search needs)
+    (λ c κs. search needs)
+    (λ c. search needs)
     returns)

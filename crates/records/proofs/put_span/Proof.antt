@@ -5,23 +5,10 @@ use Rattle.records.proofs.Writes.{follows}
 use borrow.Author.Needs.{needs}
 use Rattle.records.proofs.put_span.Statement.{statement}
 use Rattle.records.proofs.put_span.Tie as tie
-use Rattle.records.proofs.put_span.Reads as reads
-use Rattle.records.proofs.put_span.Lts as lts
-use Rattle.records.proofs.put_field.Reads as put-field-reads
-use Rattle.records.proofs.put_place.Reads as put-place-reads
-
-put-place-requires : tie.Need-put-place-requires
-put-place-requires c κs = search needs
-
-put-field-requires : tie.Need-put-field-requires
-put-field-requires c κs = search needs
-
-same-length : tie.Need-same-length
-same-length c = search needs
 
 returns : tie.Need-returns
 unfolding field fields
 returns c = follows _ _ (c .before .before .before .before .before .before .put-place .ensures) (c .before .before .put-field .ensures)
 
 pub put-span-spec : {M : Type 1} → statement M
-put-span-spec = tie.close (tie.spec put-place-requires put-field-requires same-length returns)
+put-span-spec = tie.close (tie.spec (λ c κs. search needs) (λ c κs. search needs) (λ c. search needs) returns)

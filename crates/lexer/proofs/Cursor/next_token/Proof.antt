@@ -18,9 +18,6 @@ whole c =
     let byte : getD (now (a .source)) (a .self .pos) 0 < 256 = omega (arith, c .before .shared-slice-known .given (a .self .pos)) in
     ap (nextFrom (a .self .pos)) (c .scan .ensures) ∙ back (a .self .pos) (kept-at (now (a .source)) (a .self .pos) byte)
 
-scan-requires : tie.Need-scan-requires
-scan-requires c κs = search needs
-
 returns : tie.Need-returns
 returns c = next-larger _ _ (c .if1 .taken) ∙ whole (c .before)
 
@@ -30,12 +27,9 @@ returns-2 c = next-too-large _ _ (c .before .if1 .left) (c .if2 .taken) ∙ whol
 sub-token-of : tie.Need-sub-token-of
 sub-token-of c = omega (arith, ap (λ (r : Scanned). r .end) (c .before .before .scan .ensures))
 
-token-of-requires : tie.Need-token-of-requires
-token-of-requires c κs = search needs
-
 returns-3 : tie.Need-returns-3
 returns-3 c = next-token _ _ (c .before .before .if1 .left) (c .before .if2 .left) (c .token-of .ensures) ∙ whole (c .before .before .before)
 
 pub next-token-spec : {M : Type 1} → statement M
 next-token-spec =
-    tie.close (tie.spec scan-requires returns returns-2 sub-token-of token-of-requires returns-3)
+    tie.close (tie.spec (λ c κs. search needs) returns returns-2 sub-token-of (λ c κs. search needs) returns-3)

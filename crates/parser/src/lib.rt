@@ -1,5 +1,0 @@
-// The parser of a marker file: its state goes by value, one token ahead; records are written as it reads.
-pub mod expressions;
-pub mod operands;
-pub mod state;
-pub mod statements;

@@ -1,0 +1,5 @@
+pub mod Lines
+pub mod Forms
+pub mod Data
+pub mod Run
+pub mod Calls
