@@ -1,6 +1,6 @@
 -- What holds on both sides of a test holds of the choice between them.
 use mathlib.Core.Path.{_≡_, refl}
-use mathlib.Core.Bool.{Bool, true, false, _&&_, false≢true}
+use mathlib.Core.Bool.{Bool, true, false, _&&_, false≢true, _||_, true≢false}
 use Rattle.lexer.specs.Text.{if_then_else_}
 
 pub branch : {A : Type 0} (b : Bool) (x x′ y y′ : A) → x ≡ x′ → y ≡ y′ → _≡_ {A = A} (if b then x else y) (if b then x′ else y′)
@@ -23,3 +23,7 @@ alike false x x′ y y′ p q = q refl
 pub and-split : (b c : Bool) → b && c ≡ true → (b ≡ true) × (c ≡ true)
 and-split true c h = (refl, h)
 and-split false c h = absurd (false≢true h)
+
+pub or-split : (b c : Bool) → b || c ≡ false → (b ≡ false) × (c ≡ false)
+or-split true c h = absurd (true≢false h)
+or-split false c h = (refl, h)

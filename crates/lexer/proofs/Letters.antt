@@ -16,8 +16,8 @@ use Rattle.lexer.specs.Letters.{beginsRun, digitRun, behindRun, letterFo
 use Rattle.lexer.specs.declared.Fault.the-variants.{LargerDigit}
 use Rattle.lexer.specs.declared.TokenRead.{TokenRead}
 use Rattle.lexer.specs.declared.TokenRead.the-variants.{Refused}
-use Rattle.lexer.proofs.Branches.{either, given, alike, and-split}
-use Rattle.lexer.proofs.Scans.{off, number-other, zero-plain, same-with, number-with}
+use Rattle.lexer.proofs.Branches.{either, given, alike, and-split, or-split}
+use Rattle.lexer.proofs.Scans.{number-other, zero-plain, same-with, number-with}
 use Rattle.lexer.proofs.Dots.{within-byte}
 
 -- A number without a prefix, and one with it, whatever reads the former.
@@ -28,10 +28,10 @@ no-prefix unprefixed c cs h = go (is "0" c) refl h
     go : (z : Bool) → is "0" c ≡ z → (z && anyOf "bodx" (getD cs 0 0)) ≡ false → numberWith unprefixed c cs ≡ unprefixed c cs
     go false z e = number-other unprefixed c cs z
     go true z e =
-        let (b, e₁) = off (is "b" (getD cs 0 0)) _ e in
-        let (o, e₂) = off (is "o" (getD cs 0 0)) _ e₁ in
-        let (k, e₃) = off (is "d" (getD cs 0 0)) _ e₂ in
-        let (x, e₄) = off (is "x" (getD cs 0 0)) _ e₃ in
+        let (b, e₁) = or-split (is "b" (getD cs 0 0)) _ e in
+        let (o, e₂) = or-split (is "o" (getD cs 0 0)) _ e₁ in
+        let (k, e₃) = or-split (is "d" (getD cs 0 0)) _ e₂ in
+        let (x, e₄) = or-split (is "x" (getD cs 0 0)) _ e₃ in
         zero-plain unprefixed c cs (eqb-true c 48 z) (eqb-false _ 98 b) (eqb-false _ 111 o) (eqb-false _ 100 k) (eqb-false _ 120 x)
 
 prefix : (f g : ℕ → List ℕ → TokenRead) (c : ℕ) (cs : List ℕ) → (is "0" c && anyOf "bodx" (getD cs 0 0)) ≡ true → numberWith f c cs ≡ numberWith g c cs

@@ -11,9 +11,9 @@ use Rattle.lexer.specs.Tokens.{stray, suffixed, tokenWith, tokenAt, size
 use Rattle.lexer.specs.Dots.{isPlainPart, plainToken, dotFollows}
 use Rattle.lexer.specs.Letters.{beginsRun, letterFollows, lastFirst, lastFirstToken}
 use Rattle.lexer.specs.Original.{originalToken, changes, TokensOfOriginal}
-use Rattle.lexer.proofs.Branches.{and-split}
+use Rattle.lexer.proofs.Branches.{and-split, or-split}
 use Rattle.lexer.proofs.Runs.{one-of}
-use Rattle.lexer.proofs.Scans.{off, same-with}
+use Rattle.lexer.proofs.Scans.{same-with}
 use Rattle.lexer.proofs.Dots.{name-with, name-same, dotted-names}
 use Rattle.lexer.proofs.Letters.{run-with, number-same, follows-begun, letter-first}
 
@@ -21,7 +21,7 @@ others : (s : List ℕ) → changes s ≡ false → tokenAt s ≡ originalToken 
 unfolding changes tokenAt originalToken tokenWith
 others [] h = refl
 others (c ∷ cs) h =
-    let (d, l) = off (dotFollows (c ∷ cs)) _ h in
+    let (d, l) = or-split (dotFollows (c ∷ cs)) _ h in
     same-with c cs isWordPart isPlainPart suffixed lastFirst (number-same c cs l) (name-same c cs d)
 
 -- The original's number has the base rules' order (RULES 14.2), and its name is the one without dots.

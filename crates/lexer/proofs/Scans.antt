@@ -19,7 +19,7 @@ use Rattle.lexer.specs.declared.Token.the-variants.{Whitespace, Identifi
 use Rattle.lexer.specs.declared.TokenRead.{TokenRead}
 use Rattle.lexer.specs.declared.TokenRead.the-variants.{Read, Refused}
 use Rattle.lexer.specs.declared.characters.Value.the-variants.{Fits, Beyond}
-use Rattle.lexer.proofs.Branches.{branch, alike}
+use Rattle.lexer.proofs.Branches.{branch, alike, or-split}
 use Rattle.lexer.proofs.Runs.{below, below-all, run-le, run-all, run-ends}
 
 abbrev flat : ℕ → ℕ → ℕ → Scanned
@@ -377,10 +377,6 @@ mark-apart : Apart isMark beforeMark
 unfolding below openText beforeLetter beforeMark isMark
 mark-apart = apart isMark beforeMark refl
 
-pub off : (a b : Bool) → (a || b) ≡ false → (a ≡ false) × (b ≡ false)
-off true b h = let z : _≡_ {A = ℕ} 0 1 = cc in absurd (omega arith)
-off false b h = (refl, h)
-
 -- The token that begins with the byte c.
 module _ (c : ℕ) (cs : List ℕ) where
   -- Two rules give the same one where its number is the same by both, or its name.
@@ -417,14 +413,14 @@ module _ (c : ℕ) (cs : List ℕ) where
       pub number-with : isDigit c ≡ true → tokenWith part unprefixed (c ∷ cs) ≡ numberWith unprefixed c cs
       unfolding tokenWith Apart
       number-with e =
-          let o = off (is ";" c) (isBlank c) (digit-apart c h e) in
+          let o = or-split (is ";" c) (isBlank c) (digit-apart c h e) in
           rw (o .0, o .1, e)
 
       pub word-with : isLetter c ≡ true → tokenWith part unprefixed (c ∷ cs) ≡ Read (Identifier (suc (run part cs)))
       unfolding tokenWith Apart beforeLetter
       word-with e =
-          let o = off (is ";" c || isBlank c) (isDigit c) (letter-apart c h e) in
-          let p = off (is ";" c) (isBlank c) (o .0) in
+          let o = or-split (is ";" c || isBlank c) (isDigit c) (letter-apart c h e) in
+          let p = or-split (is ";" c) (isBlank c) (o .0) in
           rw (p .0, p .1, o .1, e)
 
     pub token-number : isDigit c ≡ true → tokenAt (c ∷ cs) ≡ numberAt c cs
@@ -438,11 +434,11 @@ module _ (c : ℕ) (cs : List ℕ) where
     pub token-mark : isMark c ≡ true → tokenAt (c ∷ cs) ≡ markAt c
     unfolding tokenWith tokenAt Apart beforeLetter beforeMark
     token-mark e =
-        let n = off (is ";" c || isBlank c || isDigit c || isLetter c || is "'" c) (is "\n" c) (mark-apart c h e) in
-        let q = off (is ";" c || isBlank c || isDigit c || isLetter c) (is "'" c) (n .0) in
-        let l = off (is ";" c || isBlank c || isDigit c) (isLetter c) (q .0) in
-        let d = off (is ";" c || isBlank c) (isDigit c) (l .0) in
-        let b = off (is ";" c) (isBlank c) (d .0) in
+        let n = or-split (is ";" c || isBlank c || isDigit c || isLetter c || is "'" c) (is "\n" c) (mark-apart c h e) in
+        let q = or-split (is ";" c || isBlank c || isDigit c || isLetter c) (is "'" c) (n .0) in
+        let l = or-split (is ";" c || isBlank c || isDigit c) (isLetter c) (q .0) in
+        let d = or-split (is ";" c || isBlank c) (isDigit c) (l .0) in
+        let b = or-split (is ";" c) (isBlank c) (d .0) in
         rw (b .0, b .1, d .1, l .1, q .1, n .1)
 
 -- what is scanned at a place is that of the token whose first byte stands there

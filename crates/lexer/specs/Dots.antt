@@ -1,5 +1,4 @@
--- Dots in names, and which tokens they change. RULES 2.3: after its first character a name may hold a dot; a dot that starts a token
--- stays punctuation. The rule itself is `isWordPart`, in Text.
+-- Dots in names (RULES 2.3), and which tokens they change. The rule itself is `isWordPart`, in Text.
 use mathlib.Core.Path.{_≡_}
 use mathlib.Core.Bool.{Bool, true, false, _&&_, _||_}
 use mathlib.Core.List.{List, [], _∷_, map}

@@ -8,8 +8,7 @@ use Rattle.lexer.specs.Text.{if_then_else_, anyOf}
 use Rattle.lexer.specs.Tokens.{lengthOf, sizeOf, faultNumber}
 use Rattle.lexer.specs.declared.LiteralKind.the-variants.{Number, Text}
 use Rattle.lexer.specs.declared.PunctuationKind.{PunctuationKind}
-use Rattle.lexer.specs.declared.PunctuationKind.the-variants.{CloseBracket, CloseParenthesis, Colon, Comma, Dollar, Dot, ForwardSlash, Minus}
-use Rattle.lexer.specs.declared.PunctuationKind.the-variants.{OpenBracket, OpenParenthesis, Plus, Star}
+use Rattle.lexer.specs.declared.PunctuationKind.the-variants.{CloseBracket, CloseParenthesis, Colon, Comma, Dollar, Dot, ForwardSlash, Minus, OpenBracket, OpenParenthesis, Plus, Star}
 use Rattle.lexer.specs.declared.Token.{Token}
 use Rattle.lexer.specs.declared.Token.the-variants.{Whitespace, Identifier, Literal, Punctuation, Comment, NewLine, EndOfFile, Invalid}
 use Rattle.lexer.specs.declared.TokenRead.{TokenRead}

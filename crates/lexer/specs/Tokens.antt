@@ -6,12 +6,10 @@ use Prim.Native.Char.{code}
 use lib.Dec.{eqb, leb, ltb}
 use lib.IntN.{pos}
 use lib.ListN.{take, getD}
-use Rattle.lexer.specs.Text.{if_then_else_, is, within, anyOf, isBlank, isDigit, isHexDigit, isLetter, isWordPart, run, all, last, digit}
-use Rattle.lexer.specs.Text.{valueFrom, openText}
+use Rattle.lexer.specs.Text.{if_then_else_, is, within, anyOf, isBlank, isDigit, isHexDigit, isLetter, isWordPart, run, all, last, digit, valueFrom, openText}
 use Rattle.lexer.specs.declared.LiteralKind.the-variants.{Number, Text}
 use Rattle.lexer.specs.declared.PunctuationKind.{PunctuationKind}
-use Rattle.lexer.specs.declared.PunctuationKind.the-variants.{CloseBracket, CloseParenthesis, Colon, Comma, Dollar, Dot, ForwardSlash, Minus}
-use Rattle.lexer.specs.declared.PunctuationKind.the-variants.{OpenBracket, OpenParenthesis, Plus, Star}
+use Rattle.lexer.specs.declared.PunctuationKind.the-variants.{CloseBracket, CloseParenthesis, Colon, Comma, Dollar, Dot, ForwardSlash, Minus, OpenBracket, OpenParenthesis, Plus, Star}
 use Rattle.lexer.specs.declared.Token.{Token}
 use Rattle.lexer.specs.declared.Token.the-variants.{Whitespace, Identifier, Literal, Punctuation, Comment, NewLine, EndOfFile, Invalid}
 use Rattle.lexer.specs.declared.Fault.{Fault}
@@ -30,7 +28,7 @@ numeral n v = Read (Literal n (Number (pos v)))
 unfoldable pub stray : ℕ → TokenRead
 stray c = Read (Invalid 1 c)
 
--- `0b`, `0o`, `0d`, `0x` followed by at least one digit of that base take all such digits; with none, the token is the single `0`.
+-- A prefix takes all digits of its base that stand behind it; where there is none, the token is the zero alone.
 -- s is what stands behind the prefix. 31 where the number is above the largest.
 unfoldable pub prefixed : ℕ → (ℕ → Bool) → List ℕ → TokenRead
 prefixed base isDigitOf s =
@@ -39,8 +37,7 @@ prefixed base isDigitOf s =
     if eqb n 0 then numeral 1 0
     else if leb v largest then numeral (2 + n) v else Refused (2 + n) TooLarge
 
--- Digits ds in a base, as a literal of n bytes. If they don't fit the base or exceed the largest, the token is Invalid of length 1:
--- the byte c with which it begins.
+-- Digits ds in a base, as a literal of n bytes. Where one is none of the base, or the number is above the largest, c alone is Invalid.
 unfoldable pub digits : ℕ → ℕ → List ℕ → ℕ → TokenRead
 digits c base ds n =
     let v : ℕ = valueFrom 0 base ds in
@@ -84,7 +81,7 @@ numberWith unprefixed c (d ∷ ds) =
 abbrev pub numberAt : ℕ → List ℕ → TokenRead
 numberAt c cs = numberWith suffixed c cs
 
--- A quoted string ends at the next `'` (closed) or before the line feed or end (unclosed). The opening quote has been passed.
+-- A string whose first quote is passed: closed by the next one, or cut off where the line or the source ends.
 unfoldable pub inQuotes : ℕ → Bool
 inQuotes c = not (is "'" c || is "\n" c)
 

@@ -45,7 +45,7 @@ operationFrom (suc n) w table =
     let r : Option ℕ = operationFrom n w (drop 8 table) in
     if same w (spelling table) then some (getD table 7 0) else r
 
--- how many rows a table has
+-- how many rows a table has; bytes behind the last whole row count for nothing
 abbrev pub rowsIn : List ℕ → ℕ
 rowsIn table = length table / 8
 

@@ -1,6 +1,6 @@
 -- Operands: what the token ahead names, and that such a token stands within its line; the answers that hold a value.
 -- Assumes nothing.
-use Prim.Native.Nat.{ℕ, zero, suc, _≤_}
+use Prim.Native.Nat.{ℕ, suc}
 use Prim.Native.String.{String}
 use mathlib.Core.Path.{_≡_, refl, sym, _∙_}
 use mathlib.Core.Bool.{Bool, true, false, _&&_}
@@ -11,6 +11,7 @@ use native.Mathlib.Omega.{arith}
 use lib.Dec.{eqb}
 use types.Run.{OneOf}
 use denote.Enum.Declared.{tagOf}
+use Rattle.lexer.proofs.Branches.{or-split}
 use Rattle.lexer.specs.Text.{if_then_else_, maybe, bytes, lower, same}
 use Rattle.names.specs.Names.{registers, segments, sizes, named, placeFrom, nameFrom, nameOf}
 use Rattle.names.specs.declared.Name.{Name}
@@ -33,7 +34,7 @@ use Rattle.operands.specs.declared.OperandsRead.the-variants as operands
 use Rattle.state.specs.Views.{kindBy, hereOf, line, Comes, Reads}
 use Rattle.operands.specs.Answers.{nameAt, LooksAs, Looks, FindsAs, Finds, ReadsRegistersAs, ReadsRegisters, ReadsOperandsAs, ReadsOperands}
 use Rattle.state.proofs.Chain.{Sofar, becomes, ends, denied, comes, is-ahead, then-comes, then-denied, attempt-finds, attempt-denied}
-use Rattle.state.proofs.Flat.{by-kind, line-end-is, or-false}
+use Rattle.state.proofs.Flat.{by-kind, line-end-is}
 
 -- the rules' expression is the code's outermost
 pub outermost : {s : List ℕ} {p : Parser} {i : ℕ} {l l′ : List ℕ} {r : Parsed} → Reads line s p (expr 32 0) i l l′ r → Reads line s p expression i l l′ r
@@ -68,7 +69,7 @@ module _ (k v : ℕ) (w : List ℕ) where
 
   -- a name is no line end
   pub within : (names : List String) {n : ℕ} → nameIn names (kindBy k v w) ≡ some n → (eqb k 10 ≡ false) × (eqb k 0 ≡ false)
-  within names {n} e = or-false _ _ (sym (line-end-is k v w) ∙ name-inside names (kindBy k v w) n e)
+  within names {n} e = or-split _ _ (sym (line-end-is k v w) ∙ name-inside names (kindBy k v w) n e)
 
 -- What is found of a name: each of its cases.
 module _ {n : ℕ} where
@@ -223,7 +224,3 @@ module _ {s : List ℕ} {p q q₂ : Parser} {m : Reader Line (Unit {0})} {i w : 
 
   pub turns : {k y : ℕ} → n ≡ suc k → y ≡ suc z → Sofar line s p m i l q₂ (operandSized (suc k) y) w l₁
   turns e f = rw (f, ← e) past-size
-
-pub positive : (n : ℕ) → 1 ≤ n → (m : ℕ) × (n ≡ suc m)
-positive zero h = absurd (omega arith)
-positive (suc m) h = (m, refl)

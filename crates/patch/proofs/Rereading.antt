@@ -25,7 +25,7 @@ use Rattle.rules.proofs.Bound.{bounded-from}
 use Rattle.records.specs.Writes.{stores, limit}
 use Rattle.reader.specs.Lent.{foreignPlace}
 use Rattle.reader.proofs.Lending.{never-foreign, place-none}
-use Rattle.reader.proofs.FullReads.{small}
+use Rattle.reader.proofs.FullReads.{small, never-both}
 use Rattle.state.specs.declared.Parser.{Parser}
 use Rattle.refusals.specs.declared.Refusal.{Refusal}
 use Rattle.state.specs.declared.Parsed.the-variants as parsed
@@ -127,9 +127,6 @@ foreign-take p (suc n) (c ∷ cs) e = go (ltb 127 c) e (foreign-take (suc p) n c
 
 pub plain-take : (n : ℕ) (s : List ℕ) → foreignPlace s ≡ length s → foreignPlace (take n s) ≡ length (take n s)
 plain-take n s e = sym (place-none (take n s) (foreign-take 0 n s (never-foreign s (sym e))) refl)
-
-never-both : {v : List Record} {c : Cause} → accepted v ≡ refusal c → ⊥
-never-both e = let z : _≡_ {A = ℕ} 0 1 = cc in omega arith
 
 -- The reading of the bytes from a place on.
 module _ (s : List ℕ) (place : ℕ) where

@@ -209,6 +209,7 @@ fn apply(
     let behind = below + x.size;
     let all = behind + (listing.len() - on);
     match statements(line, table, &mut out[below..], 0, p) {
+        // Never: what was measured is read again.
         Parsed::Refused(_) => 0,
         Parsed::Done(_, _) => {
             copy(source, 0, edited);

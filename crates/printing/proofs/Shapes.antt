@@ -14,7 +14,7 @@ use Rattle.rules.specs.Decode.{nth, nthsFrom, having, dataAt, formed, recordOf}
 use Rattle.rules.proofs.Forms.{same-true, found, two-letters as letters-two}
 use Rattle.records.specs.Marks.{lettersOf, isKnown, countOf}
 use Rattle.records.proofs.Fields.{letters-of}
-use Rattle.records.proofs.Marking.{cells-are, count-of, known-none, known-some, or-split, data-mark}
+use Rattle.records.proofs.Marking.{cells-are, count-of, known-none, known-some, or-other, data-mark}
 use Rattle.printing.specs.declared.Shape.the-variants as shape
 use Rattle.text.specs.Text.{decimal, signed, numbers, Put}
 use Rattle.printing.specs.Lines.{fieldsText, lineOf}
@@ -89,7 +89,7 @@ only-value : (m : List ℕ) (w : Form) → formOf m ≡ some w → (m ≡ bytes 
 unfolding formOf cells noSigned
 only-value m w e n =
     let (h, j) = found (λ v. same (bytes (v .mark)) (bytes "VC") || noSigned (cells (v .holds))) m w refl e in
-    or-split (same (bytes (w .mark)) (bytes "VC")) _ h (λ i. n (j ∙ same-true (bytes (w .mark)) (bytes "VC") i))
+    or-other (same (bytes (w .mark)) (bytes "VC")) _ h (λ i. n (j ∙ same-true (bytes (w .mark)) (bytes "VC") i))
 
 unlike : {x k : ℕ} {m : List ℕ} → lettersOf k ≡ m → (x ≡ k → ⊥) → lettersOf x ≡ m → ⊥
 unlike {x} {k} h n e = n (letters-of x k (e ∙ sym h))

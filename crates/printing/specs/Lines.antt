@@ -1,5 +1,5 @@
--- What the program `listing` prints: a line per record, mark then decimal fields (LD's bytes last), then `END` and the record count; refused,
--- the one line `REF number from to first second`.
+-- The printed listing, RULES 12: each record's line has its mark, its fields in decimal and then its data; a last line counts the records. Of a
+-- refusal there is one line, with its five values.
 use mathlib.Core.Path.{_≡_, refl}
 use mathlib.Core.List.{List, [], _∷_, _++_}
 use Prim.Native.Nat.{ℕ, zero, suc, pred}

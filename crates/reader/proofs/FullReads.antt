@@ -92,7 +92,7 @@ taken l b e k h = rw (e, k) (taken-over l b h)
 accepted-same : {v w : List Record} → accepted v ≡ accepted w → v ≡ w
 accepted-same e = cc
 
-never-both : {v : List Record} {c : Cause} → accepted v ≡ refusal c → ⊥
+pub never-both : {v : List Record} {c : Cause} → accepted v ≡ refusal c → ⊥
 never-both e = let z : _≡_ {A = ℕ} 0 1 = cc in omega arith
 
 -- The two readings of `keep_and_copy`.

@@ -28,9 +28,9 @@ away-none : (x : ℕ) (ks : List ℕ) (P : Type 0) → Away x ks P → P × None
 away-none x [] P h = (h, tt)
 away-none x (k ∷ ks) P h = let ((p, n), r) = away-none x ks (P × (x ≡ k → ⊥)) h in (p, (n, r))
 
-pub or-split : (b c : Bool) → b || c ≡ true → (b ≡ true → ⊥) → c ≡ true
-or-split true c h n = absurd (n refl)
-or-split false c h n = h
+pub or-other : (b c : Bool) → b || c ≡ true → (b ≡ true → ⊥) → c ≡ true
+or-other true c h n = absurd (n refl)
+or-other false c h n = h
 
 -- a mark as a number
 abbrev codeOf : Form → ℕ
@@ -87,7 +87,7 @@ known-some m e h = false≢true (sym (ap (λ (o : Option Form). maybe o false (�
 not-among : (x : ℕ) (ks : List ℕ) → None x ks → among x ks ≡ true → ⊥
 unfolding among
 not-among x [] h e = false≢true e
-not-among x (k ∷ ks) h e = not-among x ks (h .1) (or-split (eqb x k) (among x ks) e (λ i. h .0 (eqb-true x k i)))
+not-among x (k ∷ ks) h e = not-among x ks (h .1) (or-other (eqb x k) (among x ks) e (λ i. h .0 (eqb-true x k i)))
 
 abbrev others : List ℕ
 others = 0x5354 ∷ 0x5643 ∷ 0x5046 ∷ 0x494e ∷ 0x4f52 ∷ 0x4f53 ∷ 0x4f44 ∷ 0x4f58 ∷ 0x4c49 ∷ 0x4c44 ∷ []
@@ -98,7 +98,7 @@ two-counted x h none e = rw e
 two-counted x h (some w) e =
     let (t, j) = found (λ v. among (codeOf v) others || eqb (length (cells (v .holds)) + (if v .laden then 1 else 0)) 2) (lettersOf x) w refl e in
     let c : codeOf w ≡ x = rw (← j) (omega arith) in
-    let n : length (cells (w .holds)) + (if w .laden then 1 else 0) ≡ 2 = eqb-true _ 2 (or-split (among (codeOf w) others) _ t (λ i. not-among x others h (rw c at i))) in
+    let n : length (cells (w .holds)) + (if w .laden then 1 else 0) ≡ 2 = eqb-true _ 2 (or-other (among (codeOf w) others) _ t (λ i. not-among x others h (rw c at i))) in
     sym (count-of (lettersOf x) w e ∙ n)
 
 pub two-others : (x : ℕ) → Away x (0x5354 ∷ 0x5643 ∷ 0x5046 ∷ 0x494e ∷ 0x4f52 ∷ 0x4f53 ∷ 0x4f44 ∷ 0x4f58 ∷ 0x4c49 ∷ 0x4c44 ∷ []) (Unit {0}) → 2 ≡ countOf (lettersOf x)
@@ -114,7 +114,7 @@ pub two-fields : (m : List ℕ) (w : Form) → formOf m ≡ some w → (m ≡ by
 unfolding formOf cells twoCells
 two-fields m w e n =
     let (h, j) = found (λ v. same (bytes (v .mark)) (bytes "ST") || twoCells (cells (v .holds))) m w refl e in
-    by (cells (w .holds)) (or-split (same (bytes (w .mark)) (bytes "ST")) _ h (λ i. n (j ∙ same-true (bytes (w .mark)) (bytes "ST") i)))
+    by (cells (w .holds)) (or-other (same (bytes (w .mark)) (bytes "ST")) _ h (λ i. n (j ∙ same-true (bytes (w .mark)) (bytes "ST") i)))
   where
     by : (cs : List Cell) → twoCells cs ≡ true → 2 ≤ length cs
     by [] h = absurd (false≢true h)
@@ -182,6 +182,6 @@ unfolding formOf cells spanFirst noPlace
 other-marks m w e lt st li =
     let (h, j) = found (λ v. same (bytes (v .mark)) (bytes "LT") || (same (bytes (v .mark)) (bytes "ST") || (same (bytes (v .mark)) (bytes "LI") || spanFirst (cells (v .holds))))) m w refl e in
     let a : List ℕ = bytes (w .mark) in
-    spanned (cells (w .holds)) (or-split (same a (bytes "LI")) _
-    (or-split (same a (bytes "ST")) _
-    (or-split (same a (bytes "LT")) _ h (λ i. lt (j ∙ same-true a (bytes "LT") i))) (λ i. st (j ∙ same-true a (bytes "ST") i))) (λ i. li (j ∙ same-true a (bytes "LI") i)))
+    spanned (cells (w .holds)) (or-other (same a (bytes "LI")) _
+    (or-other (same a (bytes "ST")) _
+    (or-other (same a (bytes "LT")) _ h (λ i. lt (j ∙ same-true a (bytes "LT") i))) (λ i. st (j ∙ same-true a (bytes "ST") i))) (λ i. li (j ∙ same-true a (bytes "LI") i)))

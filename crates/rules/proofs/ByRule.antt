@@ -4,9 +4,9 @@ use mathlib.Core.Bool.{Bool, false}
 use mathlib.Core.List.{List, [], _∷_}
 use Prim.Native.Nat.{ℕ, zero, suc, pred}
 use lib.ListN.{length, drop}
+use Rattle.lexer.proofs.Branches.{or-split}
 use Rattle.lexer.specs.Tokens.{tokenAt, sizeOf}
 use Rattle.lexer.specs.declared.TokenRead.{TokenRead}
-use Rattle.lexer.proofs.Scans.{off}
 use Rattle.rules.specs.Lexemes.{Lexeme, put, tokensBy}
 use Rattle.rules.specs.Statements.{Profile, rows, outcome, readRows, readFrom, reading}
 use Rattle.rules.specs.Calls.{lent, lentAt, tokenRead, tokenCall, listed, fullRead, oneFound, oneRead, statementCall}
@@ -23,7 +23,7 @@ module _ (rule : List ℕ → TokenRead) (test : List ℕ → Bool) (others : (s
   tokens-same p k [] h = refl
   tokens-same p (suc k) (c ∷ cs) h = tokens-same (suc p) k cs h
   tokens-same p zero (c ∷ cs) h =
-      let (a, b) = off (test (c ∷ cs)) _ h in
+      let (a, b) = or-split (test (c ∷ cs)) _ h in
       let t : TokenRead = rule (c ∷ cs) in
       rw (others (c ∷ cs) a) (ap (put p t (c ∷ cs)) (tokens-same (suc p) (pred (sizeOf t)) cs b))
 

@@ -12,7 +12,7 @@ use lib.ListN.{length, take, drop}
 use borrow.Author.Tests.{eqb-true, eqb-false, ltb-true, ltb-false, leb-true, leb-false}
 use Rattle.lexer.specs.Text.{if_then_else_, maybe, is, among}
 use Rattle.lexer.specs.Tokens.{tokenAt}
-use Rattle.lexer.proofs.Branches.{either}
+use Rattle.lexer.proofs.Branches.{either, or-split}
 use Rattle.rules.specs.Lexemes.{Kind, word, number, quoted, mark, newline, blank, comment, invalid, end, bad, Lexeme, tokensFrom, tokens, nameIn, operationIn}
 use Rattle.names.specs.Names.{directives}
 use Rattle.rules.specs.Records.{Record, ST, LD, LT, field}
@@ -36,7 +36,6 @@ use Rattle.rules.proofs.Shape.{directive-small}
 use Rattle.rules.proofs.Cut.{tokens-finished, rows-all}
 use Rattle.rules.proofs.Calls.{lentAt-gives, room-gives, accepted-call}
 use Rattle.rules.proofs.Alone.{openIn, listed-open, lent-open, nearest-among}
-use Rattle.rules.proofs.Demand3.{or-split}
 use Rattle.rules.proofs.OneRow.{Single, single-alone, Feedless, one-row, lineAt-feedless, lines-feedless}
 
 -- The bytes of a number that fits are worth it.

@@ -14,7 +14,7 @@ use Rattle.lexer.specs.Tokens.{inComment}
 use Rattle.rules.specs.Records.{Record, listing}
 use Rattle.rules.specs.Reader.{Cause, at, nowhere, done}
 use Rattle.rules.specs.Statements.{Profile, State, Outcome, accepted, refusal, outcome, readFrom, reading}
-use Rattle.lexer.proofs.Branches.{and-split}
+use Rattle.lexer.proofs.Branches.{and-split, or-split}
 use Rattle.lexer.proofs.TokensLine.{Lines}
 use Rattle.rules.specs.Calls.{Result, gives, refuses, unless, mostBytes, tooLong, foreign, ascii, lent, inRoom, listed, fullRead}
 use Rattle.rules.specs.Decode.{decode}
@@ -127,10 +127,6 @@ whole-lines : (A : List ℕ) → Lines A → whole (linesFrom [] A) ≡ A
 unfolding whole linesFrom
 whole-lines [] l = refl
 whole-lines (c ∷ cs) l = whole-from [] c cs l
-
-pub or-split : (b c : Bool) → b || c ≡ false → (b ≡ false) × (c ≡ false)
-or-split true c h = absurd (true≢false h)
-or-split false c h = (refl, h)
 
 -- what the patch's listing becomes
 unfoldable pub exchangedBy : ℕ → ℕ → ℕ → List Record → Outcome → Outcome

@@ -1,5 +1,5 @@
--- Each statement read moves at least one byte forward or says that none is left, which holds only before nothing but line feeds, whitespace
--- and comments. (RULES 7.9.) A statement's first token has a byte, and what follows it is not read again; none
+-- Whoever reads statement by statement comes forward by a byte or more each time, up to where only line ends, blanks and comments are left
+-- (RULES 7.9). A statement's first token has a byte, and what follows it is not read again; none
 -- is left where the lines' first tokens are all line ends.
 use mathlib.Core.Path.{_≡_, refl, sym, ap, _∙_}
 use mathlib.Core.Bool.{Bool, true, false, _&&_, true≢false}

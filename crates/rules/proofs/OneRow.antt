@@ -10,13 +10,12 @@ use borrow.Author.Tests.{eqb-true, eqb-false, ne-eqb}
 use Rattle.lexer.specs.Text.{if_then_else_, among, is, within, anyOf, isBlank, isDigit, isHexDigit, isLetter, run, all, last, digit, valueFrom}
 use Rattle.lexer.specs.Tokens.{largest, numeral, stray, prefixed, digits, suffixBehind, suffixLast, inBase, suffixed, numberWith, numberAt, stringAfter, inComment, mark, markAt, tokenWith, tokenAt, sizeOf}
 use Rattle.lexer.specs.declared.TokenRead.{TokenRead}
-use Rattle.lexer.proofs.Branches.{either, given}
+use Rattle.lexer.proofs.Branches.{either, given, or-split}
 use Rattle.rules.specs.Lexemes.{kindOf, Lexeme, isGap, lexeme, put, tokensBy, tokensFrom}
 use Rattle.rules.specs.Reader.{isLineEnd}
 use Rattle.rules.specs.Statements.{Row, rows, push}
 use Rattle.rules.specs.Claims.{Each}
 use Rattle.rules.specs.Patch.{lineAt, linesFrom}
-use Rattle.rules.proofs.Demand3.{or-split}
 
 -- No byte is a line feed.
 abbrev pub Feedless : List ℕ → Type 0

@@ -53,7 +53,7 @@ lentAt source p a = unless (ltb (length source) p) (nowhere 42) (lent source a)
 unfoldable pub inRoom : {A : Type 0} → ℕ → List Record → A → Result A
 inRoom room w a = unless (ltb room (length (listing w))) (nowhere 4) (gives a)
 
--- Accepted calls write only the bytes of the result, from a buffer's first byte on. Everything lent is left as it was at each refusal.
+-- What a buffer holds afterwards: the result's bytes at its head and its own behind them, or at a refusal all its own.
 unfoldable pub overwrite : List ℕ → List ℕ → List ℕ
 overwrite b buffer = b ++ drop (length b) buffer
 
@@ -84,8 +84,8 @@ enough source = 18 * length source
 unfoldable pub fullBuffer : Profile → List ℕ → List ℕ → List ℕ
 fullBuffer profile source buffer = leaves listing (fullRead profile source (length buffer)) buffer
 
--- The statement read at a place, lent a listing buffer. It begins as the parser would at that place, with spans counted from byte 0, and
--- gives that one statement's records, ST first, and the place of the token ahead, or answers that none is left and writes nothing.
+-- The statement read at a place, lent a listing buffer: as if the first token from there on began a line, with the places of the whole source. It
+-- gives the records of one statement and where the token behind it begins, or that there is no statement, and then nothing is written.
 pub data Found : Type 0 where
   nothing : Found
   found : (records : List Record) (ahead : ℕ) → Found

@@ -7,8 +7,7 @@ use lib.Dec.{ltb}
 use Rattle.lexer.specs.Text.{if_then_else_, maybe, is}
 use Rattle.rules.specs.Lexemes.{Kind, word, number, quoted, mark, newline, blank, comment, invalid, end, bad, Lexeme}
 use Rattle.rules.specs.Records.{VC, VL, VI, VS, PF, IN}
-use Rattle.rules.specs.Reader.{Reader, Line, nowhere, _>>=_, _>>_, return, write, refuse, next, ahead, kind, passed, left, refuseHere, isMark}
-use Rattle.rules.specs.Reader.{expect, openReader}
+use Rattle.rules.specs.Reader.{Reader, Line, nowhere, _>>=_, _>>_, return, write, refuse, next, ahead, kind, passed, left, refuseHere, isMark, expect, openReader}
 
 -- An operator's level comes from its kind alone: `+ -` bind loosest, `* /` tighter, prefix `+ -` tightest. The operator is given by its
 -- number. Equal levels group to the left: an operator takes to its right only what binds tighter than it.

@@ -7,8 +7,7 @@ use Rattle.lexer.specs.Text.{if_then_else_, maybe}
 use Rattle.rules.specs.Lexemes.{Kind, word, number, quoted, mark, newline, blank, comment, invalid, end, bad, textOf, nameIn}
 use Rattle.names.specs.Names.{registers, segments, sizes}
 use Rattle.rules.specs.Records.{OR, OS, OI, OF, OD, OX}
-use Rattle.rules.specs.Reader.{Reader, Line, at, encoding, _>>=_, _>>_, return, write, refuse, attempt, next, ahead, kind, passed, left}
-use Rattle.rules.specs.Reader.{refuseHere, isMark, isLineEnd, expect}
+use Rattle.rules.specs.Reader.{Reader, Line, at, encoding, _>>=_, _>>_, return, write, refuse, attempt, next, ahead, kind, passed, left, refuseHere, isMark, isLineEnd, expect}
 use Rattle.rules.specs.Expressions.{expression, openExpressions}
 
 -- An immediate is an expression; `a:b` is far.

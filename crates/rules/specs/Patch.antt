@@ -19,7 +19,7 @@ use Rattle.rules.specs.WellFormed.{wellFormed, openWellFormed}
 unfoldable pub beginsLine : List ℕ → ℕ → Bool
 beginsLine s a = eqb a 0 || (leb a (length s) && is "\n" (getD s (pred a) 0))
 
--- A line runs from place a to before the next line feed or the end: what stands above it, the line, and what stands behind it.
+-- The line that begins at place a: what stands above it, its bytes up to its line feed, and what stands behind them.
 unfoldable pub above : List ℕ → ℕ → List ℕ
 above s a = take a s
 
@@ -51,7 +51,7 @@ unfoldable pub nearest : List (List ℕ) → Option (List ℕ)
 nearest [] = none
 nearest (l ∷ ls) = maybe (nearest ls) (if bareLine l then none else (some l)) some
 
--- A line leaves a `times` without its content where the full read, given that line alone as its source, refuses it with 34.
+-- A line is open if the full read of no other bytes is refused with 34: its last `times` waits for a content.
 unfoldable pub isOpen : Result (List Record) → Bool
 isOpen (gives w) = false
 isOpen (refuses r) = eqb (numbersOf r .number) 34
@@ -59,7 +59,7 @@ isOpen (refuses r) = eqb (numbersOf r .number) 34
 unfoldable pub leavesOpen : Profile → List ℕ → Bool
 leavesOpen profile l = isOpen (fullRead profile l (enough l))
 
--- 40: the replaced line, the new one, or the nearest line above that holds more than blanks and a comment leaves a `times` open.
+-- 40: open is the old line, the new text, or above them the nearest line that is not bare.
 unfoldable pub openLine : Profile → List ℕ → ℕ → List ℕ → Bool
 openLine profile s a new =
     leavesOpen profile (lineAt s a) || (leavesOpen profile new || maybe (nearest (linesFrom [] (above s a))) false (leavesOpen profile))
@@ -89,8 +89,8 @@ pub record Edit : Type 0 where
   pub source : List ℕ
   pub records : List Record
 
--- Statements with place below a are copied; those from a to before a + p are dropped for the new line's, w; the rest are copied with ST and
--- spans moved by q − p; each is at least p, so `-` takes all of p away (Claims: MovesExactly).
+-- The old records below a, then the new line's, w, for those of its p bytes, then the rest with their places moved, as q bytes stand for p now;
+-- no such place is below p, so `-` takes all of p away (Claims: MovesExactly).
 unfoldable pub exchanged : ℕ → ℕ → ℕ → List Record → List Record → List Record
 exchanged a p q rs w = recordsBelow a rs ++ (w ++ map (moveRecord (λ k. k + q - p)) (recordsOn (a + p) rs))
 
@@ -110,7 +110,7 @@ patched profile s (some rs) a new roomS roomL =
     (unless (openLine profile s a new) (nowhere 40)
     (reread s rs a new roomS roomL (readFrom profile a (new ++ take 1 (behind s a)))))
 
--- Order: 42, 43, 1, 2, 41, 40, then reading in source order, 6, 4. The rooms are the lengths of the two lent buffers.
+-- The tests of RULES 11.2, each behind those before it. The rooms are the lengths of the two lent buffers.
 unfoldable pub patch : (profile : Profile) (old bytes : List ℕ) (a : ℕ) (new : List ℕ) (roomS roomL : ℕ) → Result Edit
 patch profile old bytes a new roomS roomL =
     unless (not (beginsLine old a)) (nowhere 42)

@@ -9,8 +9,7 @@ use Rattle.rules.specs.Lexemes.{Kind, word, number, quoted, mark, newlin
 use Rattle.names.specs.Names.{directives}
 use Rattle.names.specs.Table.{operations}
 use Rattle.rules.specs.Records.{Record, ST, LL, LI, LD, LC, LT, field, openRecords}
-use Rattle.rules.specs.Reader.{Reader, Answer, done, refused, Line, Cause, at, nowhere, _>>=_, _>>_, return, write, refuse, arrive, next, ahead}
-use Rattle.rules.specs.Reader.{kind, passed, left, refuseHere, isMark, isLineEnd}
+use Rattle.rules.specs.Reader.{Reader, Answer, done, refused, Line, Cause, at, nowhere, _>>=_, _>>_, return, write, refuse, arrive, next, ahead, kind, passed, left, refuseHere, isMark, isLineEnd}
 use Rattle.rules.specs.Expressions.{expression}
 use Rattle.rules.specs.Operands.{operands, isWord, openOperands}
 
@@ -19,8 +18,7 @@ pub record Profile : Type 0 where
   pub table : List ℕ
   pub takes : ℕ → ℕ → Bool
 
--- The largest number that a data line's word takes: `db` gives a number one byte, `dw` two. RULES 7.6: in `db` a number above 255, and
--- in `dw` a number above 65,535, must be refused.
+-- The largest number that fits a data line's word, RULES 7.6: one byte of `db`, two of `dw`.
 unfoldable pub largest : ℕ → ℕ
 largest width = if eqb width 1 then 255 else 65535
 
@@ -135,9 +133,9 @@ constant x = do
 
 -- The numbers that are taken in a data line are those of a test.
 module _ (takes : ℕ → ℕ → Bool) where
-  -- `db` and `dw` take literals, commas optional; strings give one byte a character, numbers their low one or two bytes, low first. The
-  -- literals go to the line's end; there are at most n, and the n of `dataOf` never runs out (Claims: CountersSuffice); a number has `width`
-  -- bytes. 60: number too wide for its data word, span the number; it comes when that literal is taken, before any later token is read.
+  -- The bytes of the literals up to the line's end: of a string its characters, of a number its `width` bytes, the low one first; a comma has none.
+  -- There are at most n literals, and the n of `dataOf` never runs out (Claims: CountersSuffice). 60 is met when its number is taken, and so
+  -- before the token behind it.
   unfoldable pub literalOf : Kind → ℕ → Reader Line (List ℕ) → Reader Line (List ℕ)
   literalOf newline width others = return []
   literalOf end width others = return []
@@ -197,8 +195,7 @@ module _ (profile : Profile) where
     if isLineEnd k then (refuse (at 34 (x .from) (x .to))) else (line times)
     write LT
 
-  -- `times` takes an expression and a content statement, which may stand on a later line, and may itself be a `times`; n more of them may
-  -- stand within one another, and 5 comes on the token ahead.
+  -- `times`: its count, and behind any empty lines its content, which may be another one. n more may be nested; at 0 the word is refused with 5.
   unfoldable pub times : ℕ → Reader State (Unit {0})
   times zero = inLine (refuseHere 5)
   times (suc n) = do

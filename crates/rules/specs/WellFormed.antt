@@ -1,5 +1,5 @@
--- Well-formed listings (41). RULES 8.5: every field in range, children present as in reverse Polish, a line record ending
--- each statement, places strictly rising, and place ≤ f ≤ t ≤ source length except LT's.
+-- Well-formed listings (41), RULES 8.5: each field is within its bounds, each record finds its children before it, and each statement begins behind
+-- the one before and is closed by a line record.
 use mathlib.Core.Bool.{Bool, true, false, not, _&&_}
 use mathlib.Core.List.{List, [], _∷_}
 use mathlib.Core.Option.{Option, none, some}
@@ -7,8 +7,7 @@ use Prim.Native.Nat.{ℕ, suc, _+_, _-_}
 use lib.Dec.{eqb, leb, ltb}
 use lib.ListN.{length, getD}
 use Rattle.lexer.specs.Text.{if_then_else_, maybe}
-use Rattle.rules.specs.Records.{Field, start, span, value, below, Count, fixed, told, Role, aStatement, aTimes, anExpression, anOperand, aLine}
-use Rattle.rules.specs.Records.{Form, formOf, Record, plain, laden, markOf, fieldsOf}
+use Rattle.rules.specs.Records.{Field, start, span, value, below, Count, fixed, told, Role, aStatement, aTimes, anExpression, anOperand, aLine, Form, formOf, Record, plain, laden, markOf, fieldsOf}
 
 -- What stands of a statement: expressions, operands above them, expressions above those; and whether a line record has closed it.
 pub record Stack : Type 0 where

@@ -12,6 +12,7 @@ use lib.ListN.{length, take, drop, length-take}
 use lib.IntN.{pos}
 use lib.Seq.{take-take, take-nil}
 use borrow.Author.Tests.{eqb-true, eq-eqb, ne-eqb}
+use Rattle.lexer.proofs.Branches.{or-split}
 use Rattle.lexer.specs.Text.{if_then_else_, is}
 use Rattle.lexer.specs.Tokens.{sizeOf}
 use Rattle.lexer.specs.Scanned.{kindOf as byteOf, valueOf}
@@ -76,10 +77,6 @@ is-refused k v w h = go (eqb k 30) refl (eqb k 31) refl
     go false e true f = rw (eqb-true k 31 f) (refused-31 v w)
     go false e false f = let z : _≡_ {A = Bool} false true = rw (e, f) at h in cc
 
-pub or-false : (a b : Bool) → (a || b) ≡ false → (a ≡ false) × (b ≡ false)
-or-false true b e = (e, cc)
-or-false false b e = (refl, e)
-
 -- The flat form of a token that is no gap, with its text, gives its kind.
 take-length : (n : ℕ) (u : List ℕ) → n ≤ length u → length (take n u) ≡ n
 take-length n u h = length-take n u ∙ omega arith
@@ -126,14 +123,14 @@ other-byte k m n e f = rw (eqb-true k m e) f
 pub plain : (a : Char) → let n = code a in
     (eqb 97 n || (eqb 48 n || (eqb 39 n || (eqb 34 n || (eqb 10 n || (eqb 0 n || (eqb 33 n || (eqb 30 n || eqb 31 n)))))))) ≡ false → Plain a
 plain a e =
-    let (b, e₁) = or-false _ _ e in
-    let (c, e₂) = or-false _ _ e₁ in
-    let (d, e₃) = or-false _ _ e₂ in
-    let (f, e₄) = or-false _ _ e₃ in
-    let (g, e₅) = or-false _ _ e₄ in
-    let (h, e₆) = or-false _ _ e₅ in
-    let (i, e₇) = or-false _ _ e₆ in
-    let (j, k) = or-false _ _ e₇ in
+    let (b, e₁) = or-split _ _ e in
+    let (c, e₂) = or-split _ _ e₁ in
+    let (d, e₃) = or-split _ _ e₂ in
+    let (f, e₄) = or-split _ _ e₃ in
+    let (g, e₅) = or-split _ _ e₄ in
+    let (h, e₆) = or-split _ _ e₅ in
+    let (i, e₇) = or-split _ _ e₆ in
+    let (j, k) = or-split _ _ e₇ in
     record { word′ = b; number′ = c; closed′ = d; open′ = f; feed′ = g; end′ = h; stray′ = i; digit′ = j; large′ = k }
 
 -- The token ahead is a mark, or not; it ends the line, or not.

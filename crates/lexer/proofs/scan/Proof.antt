@@ -6,8 +6,9 @@ use borrow.Author.Tests.{eqb-true, eqb-false}
 use native.Mathlib.Omega.{arith}
 use denote.Ref.{now}
 use lib.ListN.{getD}
+use Rattle.lexer.proofs.Branches.{or-split}
 use Rattle.lexer.proofs.Runs.{one-of}
-use Rattle.lexer.proofs.Scans.{off, run-end-is, string-closed, string-unclosed, string-room, scanned-at, scanned-end, line-scanned, mark-scanned, stray-scanned, token-comment, token-blank, token-number, token-word, token-string, token-line, token-mark, token-other}
+use Rattle.lexer.proofs.Scans.{run-end-is, string-closed, string-unclosed, string-room, scanned-at, scanned-end, line-scanned, mark-scanned, stray-scanned, token-comment, token-blank, token-number, token-word, token-string, token-line, token-mark, token-other}
 use borrow.Author.Needs.{needs}
 use Rattle.lexer.proofs.scan.Statement.{statement}
 use Rattle.lexer.proofs.scan.Tie as tie
@@ -54,7 +55,7 @@ cast-t25 c = omega (arith, byte (c .before .before .before .before .before .befo
 
 returns-9 : tie.Need-returns-9
 returns-9 c =
-    let o = off _ _ (c .before .before .if5 .left) in
+    let o = or-split _ _ (c .before .before .if5 .left) in
     stray-scanned _ _ (sym (c .before .before .before .is-punctuation .ensures) ∙ o .0)
     ∙ scanned-at _ _ (c .before .before .before .before .before .before .before .before .before .before .before .if1 .left) (token-other _ _ (sym (c .before .before .before .before .before .before .before .before .before .is-whitespace .ensures) ∙ c .before .before .before .before .before .before .before .before .if2 .left) (sym (c .before .before .before .before .before .before .before .is-identifier-first .ensures) ∙ c .before .before .before .before .before .before .if3 .left) (sym (c .before .before .before .before .before .is-decimal-digit .ensures) ∙ c .before .before .before .before .if4 .left) (c .before .if6 .left) (c .if7 .left) (eqb-false _ 10 (o .1)))
 

@@ -19,7 +19,8 @@ use Rattle.state.specs.Views.{line, lineOf, Passes}
 use Rattle.state.proofs.Chain.{Sofar, starts, comes, denied, hands-on, reads-refused, is-ahead, is-left, first-denied}
 use Rattle.state.proofs.Flat.{plain, mark-ahead, other-ahead}
 use Rattle.state.proofs.Steps.{one-passed}
-use Rattle.operands.proofs.Laws.{within, is-register, is-segment, is-size, is-other, turns, positive}
+use Rattle.operands.proofs.Laws.{within, is-register, is-segment, is-size, is-other, turns}
+use Rattle.expressions.proofs.Reading.{positive}
 use Rattle.operands.proofs.operand.Statement.{statement}
 use Rattle.operands.proofs.operand.Tie as tie
 
