@@ -273,6 +273,7 @@ row_on (later b) = below b
 
 step_row_on : (g : Unit {0}) (s : State) (rs : List Row) → Beneath rs → Post Free (λ _. OnS) g (step_row rs s)
 unfolding step_row enter
+step_row_on g s [] b = elim b [ ]
 step_row_on g s (r ∷ rs) b = arrive_post r.first (now (row_on b))
 
 line_end_on : Triple Free OnS line_end (λ _. OnS)
@@ -287,6 +288,7 @@ Inside g s = (is_line_end s.line.here.kind ≡ false) × OnS g s
 skip_on : (g : Unit {0}) (l : Line) (rs : List Row) → Ahead (Beneath rs) l → Post Free (λ _. Inside) g (skip l rs)
 unfolding skip
 skip_on g l [] (inside d) = now (dot_no_end d, inside d)
+skip_on g l [] (below b) = elim b [ ]
 skip_on g l (r ∷ rs) h = go (is_line_end l.here.kind) refl (λ b. skip_on g (first_of r) rs (row_on b))
   where
     go : (b : Bool) → is_line_end l.here.kind ≡ b → (Beneath (r ∷ rs) → Post Free (λ _. Inside) g (skip (first_of r) rs))

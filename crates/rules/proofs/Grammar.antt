@@ -99,7 +99,7 @@ lone_behind : (b : Bool) (xs : List Lexeme) (o : Lexeme) (ys : List Lexeme) → 
 unfolding lone_dollar
 lone_behind true [] o ys h = refl
 lone_behind false [] o ys h = ap (λ (b : Bool). lone_dollar b ys) h
-lone_behind b (x ∷ xs) o ys h = lone_behind _ xs o ys h
+lone_behind b (x ∷ xs) o ys h = lone_behind (if b then false else is_mark "$" x.kind) xs o ys h
 
 next_behind : (xs : List Lexeme) (o : Lexeme) (ys : List Lexeme) (z : Lexeme) → is_mark "$" o.kind ≡ false → Next (xs ++ (o ∷ ys)) z → Next ys z
 next_behind xs o ys z h n = record { fine = n.fine; no_dollar_lem = λ i. n.no_dollar_lem (lone_behind false xs o ys h ∙ i) }

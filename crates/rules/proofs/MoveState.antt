@@ -94,7 +94,7 @@ module _ (f : ℕ → ℕ) (P : State → Type 0)
   skip_stays : (l : Line) (rs : List Row) → P (record { line = l; below = rs }) → Stays P Any (skip l rs)
   unfolding skip enter
   skip_stays l [] h = h
-  skip_stays l (r ∷ rs) h = go (is_line_end l.here.kind) (skip_stays _ rs (closed_row l r rs h))
+  skip_stays l (r ∷ rs) h = go (is_line_end l.here.kind) (skip_stays (first_of r) rs (closed_row l r rs h))
     where
       t : Line
       t = first_of r
