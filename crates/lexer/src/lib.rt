@@ -1,4 +1,6 @@
 // Letters, numbers and tokens of a marker file, read one at a time by a cursor that goes by value.
+#![tactic(auto)]
+
 ghost use Rattle.std.specs.Prelude.{◌≡◌, true, ℕ, suc, ◌+◌, ◌-◌, ◌≤◌, ◌<◌, length, take, drop, get_or};
 ghost use Rattle.lexer.specs.Text.{is_digit, is_hex_digit, digit};
 ghost use Rattle.lexer.specs.Tokens.{token_at, number_at, suffixed, prefixed, digits};
