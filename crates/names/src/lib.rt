@@ -1,5 +1,7 @@
 // Names: registers, segments, size words, directives and operations. Case is ignored.
 // A word is looked up by its key: its letters as one number.
+#![tactic(auto)]
+
 ghost use Rattle.std.specs.Prelude.{◌≡◌, true, [], ◌∷◌, map, ℕ, ◌+◌, ◌*◌, ◌<◌, ◌≤◌, length, get_or};
 ghost use Rattle.lexer.specs.Text as text;
 ghost use Rattle.names.specs.Table.{operations};

@@ -1,0 +1,8 @@
+-- A word names what its key names.
+use mathlib.Core.Path.{◌∙◌}
+use Rattle.names.proofs.Names.{names_by}
+use Rattle.names.proofs.name_of.Goals as goal
+
+pub returns : goal.returns
+returns c =
+    c.name_by.ensures ∙ names_by c.args.word.now c.shared_slice_known-1.given c.word_key-key.ensures.0
