@@ -1,4 +1,6 @@
 // Operators: how tightly they bind, and what they give.
+#![tactic(auto)]
+
 ghost use Rattle.std.specs.Prelude.{◌≡◌};
 ghost use Rattle.rules.specs.Expressions as rules;
 ghost use Rattle.rules.specs.Evaluate.{signed32, evaluate as exactly};

@@ -1,5 +1,7 @@
 // The records of a listing as bytes: a two-letter mark and fields of 4 bytes, low first.
 // A writer writes only where the buffer has room and gives the place behind its record, so an empty buffer measures.
+#![tactic(auto)]
+
 pub mod marks;
 pub mod moves;
 
