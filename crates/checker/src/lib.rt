@@ -1,4 +1,6 @@
 // The check of a listing (41), in one pass over its bytes: record by record, with what stands of the statement as three counters.
+#![tactic(auto)]
+
 ghost use Rattle.std.specs.Prelude.{◌≡◌, [], ◌+◌, ◌<◌, drop};
 ghost use Rattle.std.proofs.Math.ListN as ListN;
 ghost use Rattle.rules.specs.Records.{ST, a_times};
@@ -12,7 +14,7 @@ use records::marks::{
 };
 
 // What stands of a statement: expressions, operands above them, expressions above those; and whether a line record has closed it.
-#[derive(Drop)]
+#[derive(Clone, Copy)]
 struct Stack {
     place: usize,
     floor: usize,

@@ -1,4 +1,6 @@
 // The parser's state, one token ahead, and the steps that all readers share.
+#![tactic(auto)]
+
 ghost use Rattle.std.specs.Prelude.{◌≡◌, true, false, ◌||◌, eqb};
 ghost use Rattle.rules.specs.Reader.{at, next as nextToken, numbers_of};
 ghost use Rattle.rules.specs.Statements.{next_row};

@@ -1,4 +1,6 @@
 // Text in a lent buffer. Each function gives the place behind what it wrote; text is cut off where the buffer ends.
+#![tactic(auto)]
+
 ghost use Rattle.std.specs.Prelude.{[], ◌∷◌};
 ghost use Rattle.text.specs.Text.{decimal, signed, numbers, Put};
 

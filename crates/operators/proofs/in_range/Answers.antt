@@ -18,4 +18,4 @@ overflow_cast-result c = rw (to_z-of_z c.ranges.v) (fits_32 (rw (to_z-of_z c.ran
 pub returns : goal.returns
 returns c =
     let f = to_z-of_z c.ranges.v in
-    ap gives (to_z-of_z (cast-t3 c) ∙ f) ∙ sym (within (rw (to_z-of_z c.ranges.v) at c.if-v-ltminus2147483648.false) (rw (to_z-of_z c.ranges.v) at c.if-v-gt2147483647.false))
+    ap gives (to_z-of_z (overflow_cast-result c) ∙ f) ∙ sym (within (rw (to_z-of_z c.ranges.v) at c.if-v-ltminus2147483648.false) (rw (to_z-of_z c.ranges.v) at c.if-v-gt2147483647.false))

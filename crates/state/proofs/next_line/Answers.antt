@@ -1,0 +1,13 @@
+-- From the token ahead to the next line: the token is fetched, and refused or taken as the rules say.
+-- Assumes nothing.
+use mathlib.Core.Path.{sym, ◌∙◌}
+use Rattle.lexer.proofs.Branches.{or_split}
+use Rattle.state.proofs.Flat.{is_refused}
+use Rattle.state.proofs.Steps.{row_comes, row_denied}
+use Rattle.state.proofs.next_line.Goals as goal
+
+pub returns-then-is_fault : goal.returns-then-is_fault
+returns-then-is_fault c = rw c.refused_at.ensures (row_denied _ _ c.fetch-t.ensures c.requires.1 (is_refused _ _ _ (sym c.is_fault.ensures ∙ c.if-is_fault.true)))
+
+pub returns : goal.returns
+returns c = let f = or_split _ _ (sym c.is_fault.ensures ∙ c.if-is_fault.false) in row_comes _ _ c.fetch-t.ensures c.requires.1 f.0 f.1
