@@ -3,7 +3,8 @@
 
 ghost use Rattle.std.specs.Prelude.{◌≡◌, [], ◌+◌, ◌<◌, drop};
 ghost use Rattle.std.proofs.Math.ListN as ListN;
-ghost use Rattle.rules.specs.Records.{ST, a_times};
+ghost use Rattle.rules.specs.Records.{a_times};
+ghost use Rattle.rules.specs.Records as records;
 ghost use Rattle.rules.specs.WellFormed as rules;
 ghost use Rattle.rules.specs.Decode.{record_of};
 ghost use Rattle.records.specs.Marks.{letters_of};
@@ -133,7 +134,7 @@ fn complete(k: Stack) -> bool
 // A statement begins: the one before is complete, and places rise.
 fn to_statement(length: usize, k: Stack, p: usize) -> Checked
     requires { p < 4294967296 }
-    ensures { checked_of result ≡ rules.checked length (stack_of k) (ST p) }
+    ensures { checked_of result ≡ rules.checked length (stack_of k) (records.ST p) }
 {
     if complete(k) & (k.floor <= p) & (p <= length) {
         return Checked::Good(Stack {

@@ -1,4 +1,6 @@
 // Lines of a source: where they begin and end, and the source with one of them exchanged.
+#![tactic(auto)]
+
 ghost use Rattle.std.specs.Prelude.{◌≡◌, true, false, ◌++◌, ◌+◌, ◌-◌, ◌≤◌, length, take, drop};
 ghost use Rattle.lexer.specs.Text.{among};
 ghost use Rattle.lexer.specs.Text.{run as run_of};
@@ -55,7 +57,8 @@ pub fn copy(out: &mut [u8], at: usize, run: &[u8])
     requires { at + length run.now ≤ length out.old }
     ensures { out.new ≡ stores out.old at run.now }
 {
-    bytes::copy(run, &mut out[at..]);
+    let end = at + run.len();
+    out[at..end].copy_from_slice(run);
 }
 
 // The source with the line from `place` to `end` exchanged.
