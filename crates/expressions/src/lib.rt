@@ -1,4 +1,6 @@
 // Expressions, written in reverse Polish.
+#![tactic(auto)]
+
 ghost use Rattle.std.specs.Prelude.{◌≡◌, length};
 ghost use Rattle.std.proofs.Math.Option.{some};
 ghost use Rattle.rules.specs.Expressions as rules;
@@ -41,7 +43,7 @@ fn operator_of(kind: u32) -> MaybeOperator
 pub const DEEPEST: u32 = 32;
 
 // An expression of operators that bind at least as tightly as `level`; `left` more levels may begin.
-#[cycle(expression_infixes_parenthesis_prefixed_primary)]
+#[cycle(expressions)]
 pub fn expression(src: &[u8], out: &mut [u8], at: u32, p: Parser, level: u8, left: u32) -> Parsed
     requires { Short src.now }
     ensures { Reads line src.now p (rules.expr left level) at out.old out.new result }
@@ -58,7 +60,7 @@ pub fn expression(src: &[u8], out: &mut [u8], at: u32, p: Parser, level: u8, lef
 }
 
 // What an expression begins with: a parenthesis, a prefix operator or an atom.
-#[cycle(expression_infixes_parenthesis_prefixed_primary)]
+#[cycle(expressions)]
 fn primary(src: &[u8], out: &mut [u8], at: u32, p: Parser, deeper: u32) -> Parsed
     requires { Short src.now }
     ensures { Reads line src.now p (rules.primary (rules.expr deeper)) at out.old out.new result }
@@ -74,7 +76,7 @@ fn primary(src: &[u8], out: &mut [u8], at: u32, p: Parser, deeper: u32) -> Parse
 }
 
 // Parentheses leave no record.
-#[cycle(expression_infixes_parenthesis_prefixed_primary)]
+#[cycle(expressions)]
 fn parenthesis(src: &[u8], out: &mut [u8], at: u32, p: Parser, deeper: u32) -> Parsed
     requires { Short src.now × (p.kind ≡ 40) }
     ensures { Reads line src.now p (rules.primary (rules.expr deeper)) at out.old out.new result }
@@ -97,7 +99,7 @@ fn parenthesis(src: &[u8], out: &mut [u8], at: u32, p: Parser, deeper: u32) -> P
 }
 
 // A prefix operator and its operand. 22 comes after the token behind the operator was read.
-#[cycle(expression_infixes_parenthesis_prefixed_primary)]
+#[cycle(expressions)]
 fn prefixed(src: &[u8], out: &mut [u8], at: u32, p: Parser, op: Operator, deeper: u32) -> Parsed
     requires { Short src.now × (rules.operator_of (mark p.kind) ≡ some (operator_number op)) }
     ensures { Reads line src.now p (rules.primary (rules.expr deeper)) at out.old out.new result }
@@ -120,7 +122,7 @@ fn prefixed(src: &[u8], out: &mut [u8], at: u32, p: Parser, op: Operator, deeper
 }
 
 // The infix operators, with their right operands, behind an expression that began at `from`.
-#[cycle(expression_infixes_parenthesis_prefixed_primary)]
+#[cycle(expressions)]
 fn infixes(
     src: &[u8],
     out: &mut [u8],

@@ -6,7 +6,7 @@ ghost use Rattle.rules.specs.Expressions as rules;
 ghost use Rattle.rules.specs.Evaluate.{signed32, evaluate as exactly};
 ghost use Rattle.operators.specs.Operators.{operator_number, prefix_level_of, result_of};
 
-#[derive(Drop)]
+#[derive(Clone, Copy)]
 pub enum Operator {
     Add,
     Subtract,

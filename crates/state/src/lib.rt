@@ -11,7 +11,7 @@ use refusals::{Refusal, refused_at};
 
 // The token ahead stands from `token_start` to before `pos`; the last one passed in its line ended at `last_token_end`.
 // `kind` is the token's, as the lexer's scan gives it, and so is `value` where it is a number; else no reader looks at `value`.
-#[derive(Drop)]
+#[derive(Clone, Copy)]
 pub struct Parser {
     pub pos: u32,
     pub token_start: u32,

@@ -325,7 +325,7 @@ fn data_of(src: &[u8], out: &mut [u8], at: u32, p: Parser, width: u8) -> Parsed
 
 // A statement whose first token is ahead; `left` more `times` may begin. The state is handed over number by number: a struct would
 // be written by its fields and copied as a whole, which waits for the writes.
-#[cycle(content_line_times)]
+#[cycle(statements)]
 fn line(
     src: &[u8],
     table: &[u8],
@@ -367,7 +367,7 @@ fn line(
 }
 
 // `times`, its expression and its content, which may stand on a later line.
-#[cycle(content_line_times)]
+#[cycle(statements)]
 fn times(src: &[u8], table: &[u8], out: &mut [u8], at: u32, p: Parser, left: u32) -> Parsed
     requires { Short src.now × (keys.good_table table.now ≡ true) × (p.kind ≡ 97) }
     ensures { Reads whole src.now p (rules.times (rules.fitting table.now) left) at out.old out.new result }
@@ -388,7 +388,7 @@ fn times(src: &[u8], table: &[u8], out: &mut [u8], at: u32, p: Parser, left: u32
 }
 
 // The content of a `times` whose word was ahead in `word`.
-#[cycle(content_line_times)]
+#[cycle(statements)]
 fn content(
     src: &[u8],
     table: &[u8],
