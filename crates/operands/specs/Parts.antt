@@ -20,7 +20,7 @@ abbrev pub index : (f r q : ℕ) → Reader Line (Option ℕ)
 index f r q = do
   next
   t ← passed
-  if rules.isIndex r then (refuse (at 33 f t)) else (return (some (rules.paired r q)))
+  if rules.is_index r then (refuse (at 33 f t)) else (return (some (rules.paired r q)))
 
 -- the first register, r, which began at f, and what follows it
 abbrev pub first : (f r : ℕ) → Reader Line (Option ℕ)
@@ -33,7 +33,7 @@ first f r = do
 abbrev pub address : (f size : ℕ) → Reader Line (Unit {0})
 address f size = do
   s ← rules.override
-  e ← rules.registersAhead
+  e ← rules.registers_ahead
   has ← rules.displacement
   rules.close f size s e has
 

@@ -1,4 +1,6 @@
 // Operands of an instruction.
+#![tactic(auto)]
+
 ghost use Rattle.std.specs.Prelude.{◌≡◌, [], ◌∷◌};
 ghost use Rattle.rules.specs.Reader.{attempt};
 ghost use Rattle.rules.specs.Records.{fields};
