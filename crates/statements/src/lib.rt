@@ -1,4 +1,6 @@
 // Statements: labels, instructions, constants, data and `times`.
+#![tactic(auto)]
+
 ghost use Rattle.std.specs.Prelude.{◌≡◌, true, false, ◌||◌, ◌≤◌, eqb};
 ghost use Rattle.names.specs.Keys as keys;
 ghost use Rattle.rules.specs.Statements as rules;

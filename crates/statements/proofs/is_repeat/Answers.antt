@@ -6,8 +6,7 @@ use mathlib.Core.Bool.{Bool, true, false, ◌||◌}
 use native.Mathlib.Omega.{arith}
 use lib.Dec.{eqb}
 use borrow.Author.Tests.{eqb-false, eq-eqb, ne_eqb}
-use Rattle.statements.proofs.is_repeat.Statement.{statement}
-use Rattle.statements.proofs.is_repeat.Tie as tie
+use Rattle.statements.proofs.is_repeat.Goals as goal
 
 either : (n : ℕ) → 46 ≤ n → n < 48 → true ≡ (eqb n 46 || eqb n 47)
 either n h i = go (eqb n 46) refl
@@ -22,14 +21,11 @@ below n h = rw (ne_eqb n 46 (λ e. omega arith), ne_eqb n 47 (λ e. omega arith)
 above : (n : ℕ) → 48 ≤ n → false ≡ (eqb n 46 || eqb n 47)
 above n h = rw (ne_eqb n 46 (λ e. omega arith), ne_eqb n 47 (λ e. omega arith))
 
-returns : tie.Need-returns
-returns c = either _ c.before.if1.false c.if2.true
+pub returns-in-46 : goal.returns-in-46
+returns-in-46 c = either _ c.in-46.if-operation-lt46-own.false c.in-46.if-operation-lt48-own.true
 
-returns-2 : tie.Need-returns-2
-returns-2 c = below _ c.if1.true
+pub returns-in_default : goal.returns-in_default
+returns-in_default c = below _ c.in_default.if-operation-lt46-own.true
 
-returns-3 : tie.Need-returns-3
-returns-3 c = above _ c.if2.false
-
-pub is-repeat-spec : {M : Type 1} → statement M
-is-repeat-spec = tie.close (tie.spec returns returns-2 returns-3)
+pub returns-in_default-2 : goal.returns-in_default-2
+returns-in_default-2 c = above _ c.in_default.if-operation-lt48-own.false
