@@ -10,13 +10,13 @@ pub statement_from-requires : goal.statement_from-requires
 statement_from-requires c = c.requires
 
 pub shape_of-out-in-Refused : goal.shape_of-out-in-Refused
-shape_of-out-in-Refused c = c.statement_from.auto.out.0 ∙ run_long _ c.loop-r.invariant
+shape_of-out-in-Refused c = c.statement_from.auto.out ∙ run_long _ c.loop-r.invariant
 
 pub returns-in-Refused : goal.returns-in-Refused
 returns-in-Refused c = run_denied _ c.loop-r.invariant (subst (ReadsStatement _ _ _ _ _ _) c.in-Refused.is c.statement_from.ensures).so
 
 pub shape_of-out-in-NoneLeft : goal.shape_of-out-in-NoneLeft
-shape_of-out-in-NoneLeft c = c.statement_from.auto.out.0 ∙ run_long _ c.loop-r.invariant
+shape_of-out-in-NoneLeft c = c.statement_from.auto.out ∙ run_long _ c.loop-r.invariant
 
 pub returns-in-NoneLeft : goal.returns-in-NoneLeft
 returns-in-NoneLeft c = run_ends _ c.loop-r.invariant (subst (ReadsStatement _ _ _ _ _ _) c.in-NoneLeft.is c.statement_from.ensures).so
