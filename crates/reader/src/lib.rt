@@ -1,4 +1,6 @@
 // The calls that read a source: a token, a statement, or all of it. A refusal leaves the buffer as it was.
+#![tactic(auto)]
+
 ghost use Rattle.std.specs.Prelude.{◌≡◌, ◌≤◌, ◌<◌, length};
 ghost use Rattle.names.specs.Table.{operations};
 ghost use Rattle.rules.specs.Calls.{Short};
