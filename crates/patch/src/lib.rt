@@ -1,4 +1,6 @@
 // The patch: one line of a source exchanged, and the source's listing with it. A refusal leaves both buffers as they were.
+#![tactic(auto)]
+
 ghost use Rattle.std.specs.Prelude.{◌≡◌, true, ◌++◌, ◌+◌, ◌-◌, ◌≤◌, ◌<◌, length, take};
 ghost use Rattle.names.specs.Table.{operations};
 ghost use Rattle.reader.specs.Lent.{foreign_place};
