@@ -1,11 +1,11 @@
 -- Whether a record has the mark, how many fields it has, and whether its bytes are there; a value is signed, and data follow their count.
 use mathlib.Core.Path.{sym, ◌∙◌}
 use native.Mathlib.Omega.{arith}
-use Rattle.printing.proofs.Shapes.{not_known, not-true, not_false, too_short, value_three, data_three, value_there, data_there, no_data, fields_there}
+use Rattle.printing.proofs.Shapes.{not_known, too_short, value_three, data_three, value_there, data_there, no_data, fields_there}
 use Rattle.printing.proofs.shape_of.Goals as goal
 
 pub returns-then-not-known : goal.returns-then-not-known
-returns-then-not-known c = not_known _ _ (sym c.known.ensures ∙ not-true c.if-not-known.true)
+returns-then-not-known c = not_known _ _ (sym c.known.ensures ∙ c.if-not-known.true)
 
 pub returns-then-s-n : goal.returns-then-s-n
 returns-then-s-n c = too_short _ _ (omega (arith, c.if-s-n.true, c.fields-n.ensures.0))
@@ -27,4 +27,4 @@ returns-then-mark-eq-LD c = rw c.if-mark-eq-LD.true
     (data_there _ _ c.field-count.ensures (omega (arith, c.if-s-count.false, c.if-s-n.false, data_three c.if-mark-eq-LD.true c.fields-n.ensures.0)))
 
 pub returns : goal.returns
-returns c = fields_there _ _ _ c.fields-n.ensures.0 (sym c.known.ensures ∙ not_false c.if-not-known.false) c.if-s-n.false c.if-mark-eq-VC.false c.if-mark-eq-LD.false
+returns c = fields_there _ _ _ c.fields-n.ensures.0 (sym c.known.ensures ∙ c.if-not-known.false) c.if-s-n.false c.if-mark-eq-VC.false c.if-mark-eq-LD.false
