@@ -1,4 +1,6 @@
 // What Rust and C link: thin functions over the libraries, each with the whole contract of what it calls.
+#![tactic(auto)]
+
 ghost use Rattle.laqhoncu.specs.Counted.{count_from};
 ghost use Rattle.std.specs.Prelude.{◌≡◌, length, drop};
 ghost use Rattle.lexer.specs.Tokens.{token_at, fault_number};
@@ -8,7 +10,7 @@ ghost use Rattle.names.specs.Names.{operation_named, found_of, name_of, directiv
 ghost use Rattle.rules.specs.Statements.{present};
 ghost use Rattle.rules.specs.Calls as rules;
 ghost use Rattle.rules.specs.Evaluate.{evaluate};
-ghost use Rattle.rules.specs.Patch.{patch as patchCall, patch_source, patch_listing};
+ghost use Rattle.rules.specs.Patch.{patch as patch_call, patch_source, patch_listing};
 ghost use Rattle.operators.specs.Operators.{operator_number, result_of};
 ghost use Rattle.reader.specs.Calls.{token_answer, statement_answer};
 ghost use Rattle.patch.specs.Patched.{patch_answer, AsFullRead};
@@ -119,8 +121,7 @@ fn next_found(next: Next) -> TokenFound
 }
 
 // The token at a place, as the cursor reads it; a refused number has the kind 30 or 31.
-#[unsafe(no_mangle)]
-pub extern "C" fn laqhoncu_token(source: &[u8], place: usize) -> TokenFound
+pub fn laqhoncu_token(source: &[u8], place: usize) -> TokenFound
     ensures { result ≡ next_found (next_of place (token_at (drop place source.now))) }
 {
     let cursor = Cursor { pos: place };
@@ -138,8 +139,7 @@ fn operation_byte(f: Found) -> u8
 }
 
 // The number of the operation that a word names, or 255.
-#[unsafe(no_mangle)]
-pub extern "C" fn laqhoncu_operation(word: &[u8]) -> u8
+pub fn laqhoncu_operation(word: &[u8]) -> u8
     ensures { result ≡ operation_byte (found_of (operation_named operations word.now)) }
 {
     let table = names::table();
@@ -159,8 +159,7 @@ fn name_number(x: Name) -> u16
 }
 
 // The register that a word names (0 to 15), the segment (256 to 259), the size (512 and 513), or 65535.
-#[unsafe(no_mangle)]
-pub extern "C" fn laqhoncu_name(word: &[u8]) -> u16
+pub fn laqhoncu_name(word: &[u8]) -> u16
     ensures { result ≡ name_number (name_of word.now) }
 {
     let x = names::name_of(word);
@@ -180,8 +179,7 @@ fn directive_byte(d: Directive) -> u8
 }
 
 // The directive that a word names: `equ` 0, `db` 1, `dw` 2, `times` 3, or 255.
-#[unsafe(no_mangle)]
-pub extern "C" fn laqhoncu_directive(word: &[u8]) -> u8
+pub fn laqhoncu_directive(word: &[u8]) -> u8
     ensures { result ≡ directive_byte (directive_of word.now) }
 {
     let d = names::directive_of(word);
@@ -282,8 +280,7 @@ fn full_reading(a: FullAnswer) -> FullReading
 }
 
 // The listing of a source, written into `out` if there is room for all of it.
-#[unsafe(no_mangle)]
-pub extern "C" fn laqhoncu_full_read(source: &[u8], out: &mut [u8]) -> FullReading
+pub fn laqhoncu_full_read(source: &[u8], out: &mut [u8]) -> FullReading
     ensures { FullReads source.now out.old out.new result }
 {
     let a = reader::full_read(source, out);
@@ -291,8 +288,7 @@ pub extern "C" fn laqhoncu_full_read(source: &[u8], out: &mut [u8]) -> FullReadi
 }
 
 // The same for a short stack: the source is read twice.
-#[unsafe(no_mangle)]
-pub extern "C" fn laqhoncu_full_read_lean(source: &[u8], out: &mut [u8]) -> FullReading
+pub fn laqhoncu_full_read_lean(source: &[u8], out: &mut [u8]) -> FullReading
     ensures { FullReads source.now out.old out.new result }
 {
     let a = reader::full_read_lean(source, out);
@@ -325,8 +321,7 @@ fn statement_reading(a: StatementAnswer) -> StatementReading
 }
 
 // The statement at a place, written into `out` if there is room for all of it.
-#[unsafe(no_mangle)]
-pub extern "C" fn laqhoncu_statement_read(
+pub fn laqhoncu_statement_read(
     source: &[u8],
     place: usize,
     out: &mut [u8],
@@ -354,8 +349,7 @@ fn token_reading(a: TokenAnswer) -> TokenReading
 }
 
 // The token at a place of a source, after 42, 1 and 2.
-#[unsafe(no_mangle)]
-pub extern "C" fn laqhoncu_token_read(source: &[u8], place: usize) -> TokenReading
+pub fn laqhoncu_token_read(source: &[u8], place: usize) -> TokenReading
     ensures { result ≡ token_reading (token_answer place (rules.token_call source.now place)) }
 {
     let a = reader::token_read(source, place);
@@ -380,8 +374,7 @@ fn patching_of(a: PatchAnswer) -> Patching
 }
 
 // The line that begins at a place of the old source exchanged for a text: the edited source in `source` and its listing in `out`.
-#[unsafe(no_mangle)]
-pub extern "C" fn laqhoncu_patch(
+pub fn laqhoncu_patch(
     old: &[u8],
     listing: &[u8],
     place: usize,
@@ -389,11 +382,11 @@ pub extern "C" fn laqhoncu_patch(
     source: &mut [u8],
     out: &mut [u8],
 ) -> Patching
-    ensures answer { result ≡ patching (patch_answer (patchCall present old.now listing.now place text.now
+    ensures answer { result ≡ patching (patch_answer (patch_call present old.now listing.now place text.now
         (length source.old) (length out.old))) }
-    ensures source { source.new ≡ patch_source (patchCall present old.now listing.now place text.now
+    ensures source { source.new ≡ patch_source (patch_call present old.now listing.now place text.now
         (length source.old) (length out.old)) source.old }
-    ensures listing { out.new ≡ patch_listing (patchCall present old.now listing.now place text.now
+    ensures listing { out.new ≡ patch_listing (patch_call present old.now listing.now place text.now
         (length source.old) (length out.old)) out.old }
     ensures demand_3 { AsFullRead patching old.now listing.now place text.now
         source.old source.new out.old out.new result }
@@ -429,8 +422,7 @@ fn evaluated(op: Operator, left: i32, right: i32) -> Valuation
 }
 
 // The operator of a number (0 `+`, 1 `-`, 2 `*`, 3 `/`) on two numbers. Any other number is refused with 255.
-#[unsafe(no_mangle)]
-pub extern "C" fn laqhoncu_evaluate(operator: u8, left: i32, right: i32) -> Valuation
+pub fn laqhoncu_evaluate(operator: u8, left: i32, right: i32) -> Valuation
     ensures { result ≡ valuation operator left right }
 {
     if operator == 0 {
@@ -452,8 +444,7 @@ pub extern "C" fn laqhoncu_evaluate(operator: u8, left: i32, right: i32) -> Valu
 }
 
 // How many tokens a source has, whitespace and comments among them.
-#[unsafe(no_mangle)]
-pub extern "C" fn laqhoncu_count(source: &[u8]) -> usize
+pub fn laqhoncu_count(source: &[u8]) -> usize
     ensures { result ≡ count_from 0 source.now }
 {
     let mut at: usize = 0;

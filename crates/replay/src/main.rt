@@ -5,9 +5,18 @@
 //
 // `stdin` and `stdout` are recorded: `cargo run --release --bin replay`, in differential/, writes them from the samples of the rules and from the
 // original's answers.
+//
+// A line's answer is written before the next line is looked at. A read or a write that fails ends it, with the error on standard error and the exit
+// status 1.
+#![tactic(auto)]
+
 ghost use Rattle.std.specs.Prelude.{◌≤◌, ◌<◌, length};
 
-use libc::{STDIN_FILENO, STDOUT_FILENO};
+use std::io;
+use std::io::Read;
+
+// The input's room, twice as long as what is recorded; what stands behind it is not read.
+const ROOM: u64 = 131072;
 
 // A byte of a source, and the place behind it in the line.
 #[derive(Drop)]
@@ -124,13 +133,19 @@ fn unescape(line: &[u8], source: &mut [u8]) -> usize
 }
 
 // One line: the line itself, and the answer.
-fn one(line: &[u8], source: &mut [u8], listing: &mut [u8], text: &mut [u8]) {
+fn one(
+    rt: &impl Print,
+    line: &[u8],
+    source: &mut [u8],
+    listing: &mut [u8],
+    text: &mut [u8],
+) -> io::Result<()> {
     let n = unescape(line, source);
     let length = printing::answer_text(&source[0..n], listing, text);
-    io::write_all(STDOUT_FILENO, b"> ");
-    io::write_all(STDOUT_FILENO, line);
-    io::write_all(STDOUT_FILENO, b"\n");
-    io::write_all(STDOUT_FILENO, &text[..length]);
+    rt.write_all(b"> ")?;
+    rt.write_all(line)?;
+    rt.write_all(b"\n")?;
+    rt.write_all(&text[..length])
 }
 
 // Where the line that begins at a place ends: at its line feed.
@@ -147,24 +162,30 @@ fn line_end(input: &[u8], from: usize) -> usize
 }
 
 // Each line in turn.
-fn all(input: &[u8], source: &mut [u8], listing: &mut [u8], text: &mut [u8]) {
+fn all(
+    rt: &impl Print,
+    input: &[u8],
+    source: &mut [u8],
+    listing: &mut [u8],
+    text: &mut [u8],
+) -> io::Result<()> {
     let mut from: usize = 0;
     while from < input.len() {
         let to = line_end(input, from);
-        one(&input[from..to], source, listing, text);
+        one(rt, &input[from..to], source, listing, text)?;
         if to == input.len() {
-            return;
+            return Ok(());
         }
         from = to + 1;
     }
+    Ok(())
 }
 
-// The buffer is twice as long as what is recorded; what it doesn't hold is not read.
-fn main() {
-    let mut input = [0u8; 131072];
+fn main(rt: HostRuntime) -> io::Result<()> {
+    let mut input = Vec::new(rt.alloc());
     let mut source = [0u8; 65537];
     let mut listing = [0u8; 65536];
     let mut text = [0u8; 393325];
-    let n = io::read_full(STDIN_FILENO, &mut input);
-    all(&input[..n], &mut source, &mut listing, &mut text);
+    rt.stdin().take(ROOM).read_to_end(&mut input)?;
+    all(&rt, input.as_slice(), &mut source, &mut listing, &mut text)
 }
