@@ -321,11 +321,7 @@ fn statement_reading(a: StatementAnswer) -> StatementReading
 }
 
 // The statement at a place, written into `out` if there is room for all of it.
-pub fn laqhoncu_statement_read(
-    source: &[u8],
-    place: usize,
-    out: &mut [u8],
-) -> StatementReading
+pub fn laqhoncu_statement_read(source: &[u8], place: usize, out: &mut [u8]) -> StatementReading
     ensures answer { result ≡ statement_reading (statement_answer (rules.statement_call present source.now place (length out.old))) }
     ensures buffer { out.new ≡ rules.statement_buffer present source.now place out.old }
 {

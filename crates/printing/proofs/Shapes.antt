@@ -9,7 +9,7 @@ use lib.ListN.{length, take, drop, get_or, length-drop, length-take, length-appe
 use lib.Seq.{length-take-le, take_all}
 use borrow.Author.Tests.{lt-leb, le-leb}
 use Rattle.lexer.specs.Text.{if◌then◌else◌, bytes, same}
-use Rattle.rules.specs.Records.{Form, form_of, plain, laden, VC, LD, Cell, a_place, a_number, a_signed, cells, cells_of}
+use Rattle.rules.specs.Records.{Form, form_of, plain, VC, LD, Cell, a_place, a_number, a_signed, cells, cells_of}
 use Rattle.rules.specs.Decode.{nth, nths_from, having, data_at, formed, record_of}
 use Rattle.rules.proofs.Forms.{same_true, found, two_letters as letters_two}
 use Rattle.records.specs.Marks.{letters_of, is_known, count_of}

@@ -12,7 +12,7 @@ use lib.ListN.{length, take, drop, length-append}
 use lib.Seq.{take-append_seam, take-length}
 use Rattle.names.specs.Table.{operations}
 use Rattle.rules.specs.Records.{Record, listing}
-use Rattle.rules.specs.Reader.{Cause, at, nowhere, numbers_of}
+use Rattle.rules.specs.Reader.{Cause, nowhere, numbers_of}
 use Rattle.rules.specs.Statements.{fitting, present, Outcome, accepted, refusal, reading}
 use Rattle.rules.specs.Calls.{Result, gives, unless, in_room, overwrite, leaves, listed, full_read, full_buffer}
 use Rattle.rules.proofs.Calls.{none_foreign, ascii_small}

@@ -1,4 +1,6 @@
 // Refusals: what a call that refuses answers, and the number of each cause.
+#![tactic(auto)]
+
 ghost use Rattle.std.specs.Prelude.{◌≡◌};
 ghost use Rattle.refusals.specs.Refusals.{spanned};
 

@@ -13,12 +13,12 @@ use Rattle.lexer.specs.Text.{if◌then◌else◌, is, bytes}
 use Rattle.rules.specs.Lexemes.{Kind, word, number, quoted, mark, newline, blank, comment, invalid, end, bad, Lexeme, text_of, name_in}
 use Rattle.names.specs.Names.{registers, segments, sizes}
 use Rattle.rules.specs.Records.{Record, field, fields, encode, listing}
-use Rattle.rules.specs.Reader.{at, Reader, Line, thence, ◌>>=◌, ◌>>◌, return, write, step, next, ahead, kind, passed, is_mark, is_line_end, expect}
+use Rattle.rules.specs.Reader.{Reader, Line, thence, ◌>>=◌, ◌>>◌, return, write, step, next, ahead, kind, passed, is_mark, is_line_end, expect}
 use Rattle.rules.specs.Expressions.{operator_of, left_level, right_level, prefix_level, character, atom_of, atom, primary, infixes, expr, expression}
 use Rattle.rules.specs.Operands.{immediate_or_far, alone, is_index, is_base, paired, plus_index, second, registers_ahead, displacement, close, override, is_word, is_number, memory, operand_sized, operand, operands}
 use Rattle.rules.specs.Statements.{label, literal_of, literals}
 use Rattle.rules.proofs.TokenKinds.{mark_inside, operator_inside, name_inside}
-use Rattle.rules.proofs.Hoare.{Run, nil, cons, Post, holds, Triple, now, after_post, bind, and_then, whether, perhaps, returns, refuses, writes, before, behind, arrive_post, attempts, ask_ahead, ask_kind, ask_passed, ask_left, here_fails}
+use Rattle.rules.proofs.Hoare.{Run, nil, cons, Post, Triple, now, after_post, bind, and_then, whether, perhaps, returns, refuses, writes, before, behind, arrive_post, attempts, ask_ahead, ask_kind, ask_passed, ask_left, here_fails}
 use Rattle.rules.proofs.Shape.{Holds, Sound, Chain, chain_low, width_four}
 
 abbrev pub weight : List Record → ℕ

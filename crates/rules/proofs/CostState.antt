@@ -15,7 +15,7 @@ use Rattle.lexer.proofs.Branches.{and_split}
 use Rattle.rules.specs.Lexemes.{Kind, Lexeme, text_of, name_in, operation_in}
 use Rattle.names.specs.Names.{directives, named, operation_named, place_from}
 use Rattle.rules.specs.Records.{Record, LT, field, fields, encode}
-use Rattle.rules.specs.Reader.{at, done, Reader, Line, thence, ◌>>=◌, write, arrive, ahead, kind, passed, is_line_end}
+use Rattle.rules.specs.Reader.{done, Reader, Line, thence, ◌>>=◌, write, arrive, ahead, kind, passed, is_line_end}
 use Rattle.rules.specs.Operands.{is_word}
 use Rattle.rules.specs.Statements.{Profile, Row, State, over, in_line, first_of, enter, step_row, next_row, line_end, skip, skip_lines, passing, rep, repne, instruction, constant, some_data, data_of, line, content, times, begun, statement}
 use Rattle.rules.proofs.TokenKinds.{word_inside, asked}

@@ -14,7 +14,7 @@ use Rattle.lexer.specs.Text.{if◌then◌else◌, is}
 use Rattle.rules.specs.Lexemes.{Kind, word, number, quoted, mark, newline, blank, comment, invalid, end, bad, Lexeme, text_of, name_in, operation_in}
 use Rattle.names.specs.Names.{registers, segments, sizes, directives}
 use Rattle.rules.specs.Records.{Record, ST, LT, field}
-use Rattle.rules.specs.Reader.{Cause, at, Answer, done, refused, Reader, Line, after, thence, ◌>>=◌, write, arrive, step, next, ahead, kind, passed, is_mark, is_line_end, expect}
+use Rattle.rules.specs.Reader.{Cause, Answer, done, refused, Reader, Line, after, thence, ◌>>=◌, write, arrive, step, next, ahead, passed, is_mark, is_line_end, expect}
 use Rattle.rules.specs.Expressions.{operator_of, left_level, right_level, prefix_level, character, atom_of, atom, primary, infixes, expr, expression}
 use Rattle.rules.specs.Operands.{immediate_or_far, alone, is_index, is_base, paired, plus_index, second, registers_ahead, displacement, close, override, is_word, is_number, memory, operand_sized, operand, operands}
 use Rattle.rules.specs.Statements.{Profile, Row, State, over, in_line, first_of, enter, step_row, next_row, line_end, skip, skip_lines, passing, label, rep, repne, instruction, constant, literal_of, literals, some_data, data_of, line, content, times, begun, statement}

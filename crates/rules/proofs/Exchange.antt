@@ -9,7 +9,7 @@ use lib.ListN.{length, take, drop, length-append}
 use Rattle.lexer.specs.Text.{if◌then◌else◌}
 use Rattle.rules.specs.Lexemes.{Lexeme, tokens_from}
 use Rattle.rules.specs.Records.{Record, plain, laden, Cell, a_place, a_number, a_signed, cells_of, move_cells, move_record}
-use Rattle.rules.specs.Reader.{Cause, at, Answer, done, refused, after, is_line_end}
+use Rattle.rules.specs.Reader.{Cause, Answer, done, refused, after, is_line_end}
 use Rattle.rules.specs.Statements.{Profile, Row, State, enter, rows, push, read_rows}
 use Rattle.rules.proofs.Move.{carry, move_refusal}
 use Rattle.rules.proofs.MoveState.{move_state}

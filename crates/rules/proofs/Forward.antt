@@ -10,7 +10,7 @@ use lib.ListN.{length, drop}
 use Rattle.lexer.proofs.Branches.{and_split}
 use Rattle.rules.specs.Lexemes.{tokens_from}
 use Rattle.rules.specs.Records.{Record, ST}
-use Rattle.rules.specs.Reader.{at, Answer, done, refused, after, thence, return, arrive, is_line_end}
+use Rattle.rules.specs.Reader.{Answer, done, refused, after, thence, return, arrive, is_line_end}
 use Rattle.rules.specs.Statements.{Profile, Row, State, rows, first_of, enter, skip_lines, begun, statement, line, times}
 use Rattle.rules.specs.Calls.{gives, lent_at, nothing, found, one_found, one_read, statement_call}
 use Rattle.rules.specs.Patch.{all_ends}

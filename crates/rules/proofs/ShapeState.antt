@@ -13,7 +13,7 @@ use Rattle.lexer.specs.Text.{if◌then◌else◌}
 use Rattle.rules.specs.Lexemes.{Kind, Lexeme, name_in, operation_in}
 use Rattle.names.specs.Names.{directives}
 use Rattle.rules.specs.Records.{Record, ST, LT}
-use Rattle.rules.specs.Reader.{Cause, at, Answer, done, refused, Reader, Line, after, thence, ◌>>=◌, ◌>>◌, return, write, arrive, ahead, kind, passed, is_line_end}
+use Rattle.rules.specs.Reader.{Cause, Answer, done, refused, Reader, Line, after, thence, ◌>>=◌, ◌>>◌, return, write, arrive, ahead, kind, passed, is_line_end}
 use Rattle.rules.specs.Operands.{is_word}
 use Rattle.rules.specs.Statements.{Profile, Row, State, over, in_line, first_of, enter, step_row, next_row, line_end, skip, skip_lines, passing, rep, repne, instruction, constant, some_data, data_of, line, content, times, begun, statement}
 use Rattle.rules.proofs.Append.{after_nil}

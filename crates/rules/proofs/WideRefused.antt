@@ -15,7 +15,7 @@ use Rattle.names.specs.Names.{directives}
 use Rattle.rules.specs.Records.{Record, field}
 use Rattle.rules.specs.Reader.{Cause, at, Answer, done, refused, Reader, Line, after, thence, ◌>>=◌, ◌>>◌, return, refused_as, arrive, step, next, ahead, left, kind, refuse_here, is_line_end}
 use Rattle.rules.specs.Expressions.{expression}
-use Rattle.rules.specs.Statements.{Profile, fitting, State, largest, fits, over, in_line, skip_lines, passing, literal_of, literals, data_of, line, content, times, begun, statement, rows, reading, outcome}
+use Rattle.rules.specs.Statements.{Profile, fitting, State, largest, fits, over, in_line, skip_lines, passing, literal_of, literals, data_of, line, content, times, begun, rows, reading, outcome}
 use Rattle.rules.specs.Calls.{listed, full_read}
 use Rattle.rules.specs.Grammar.{left_of}
 use Rattle.rules.specs.Data.{BytesOf, Says, ends, comma, string, count, Opens, OpensIn, TooWide, TooWideRefused}

@@ -1,5 +1,5 @@
 use mathlib.Core.Path.{sym, ap, ◌∙◌}
-use Prim.Native.Nat.{◌+◌, ◌-◌, ◌≤◌}
+use Prim.Native.Nat.{◌+◌, ◌≤◌}
 use native.Mathlib.Omega.{arith}
 use Rattle.checker.specs.Checker.{stack_of, passed_of}
 use Rattle.checker.proofs.Walk.{Stands, stands_first, stands_end, stands_bad, stands_again}

@@ -5,6 +5,6 @@ use Rattle.laqhoncu.proofs.laqhoncu_statement_read.Goals as goal
 
 pub returns : goal.returns
 returns c = record {
-    answer = c.statement_reading.ensures ∙ ap statement_reading c.statement_read-a.ensures.answer;
-    buffer = c.statement_read-a.ensures.buffer;
-  }
+  answer = c.statement_reading.ensures ∙ ap statement_reading c.statement_read-a.ensures.answer;
+  buffer = c.statement_read-a.ensures.buffer;
+}

@@ -1,6 +1,5 @@
 -- The number is the one that the digits write, or none, as in the definition.
 use mathlib.Core.Path.{sym, ◌∙◌}
-use native.Mathlib.Omega.{arith}
 use Rattle.lexer.proofs.Scans.{literal_fits, literal_beyond}
 use Rattle.lexer.proofs.number_literal.Goals as goal
 

@@ -1,4 +1,3 @@
-use Prim.Native.Nat.{◌-◌}
 use mathlib.Core.Path.{refl, sym, ◌∙◌}
 use Rattle.lexer.proofs.Runs.{run_more, run_stop, run_none}
 use Rattle.lines.proofs.Laws.{feed_stops, other_goes}

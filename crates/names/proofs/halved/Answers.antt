@@ -17,6 +17,6 @@ returns c =
     let rows = a.part.rows - a.part.rows / 2 in
     let e = c.row_at.ensures.0 in
     elim c.if-row_at-most.branch [
-      then-row_at-most w ↦ let h = w.if-row_at-most.true in subst (λ (i : ℕ). record { row = i; rows = rows } ≡ half t a.most a.part.row a.part.rows) (sym w.row-is) (upper t a.most a.part.row a.part.rows (omega (arith, e)))
+      | then-row_at-most w ↦ let h = w.if-row_at-most.true in subst (λ (i : ℕ). record { row = i; rows = rows } ≡ half t a.most a.part.row a.part.rows) (sym w.row-is) (upper t a.most a.part.row a.part.rows (omega (arith, e)))
       | else-row_at-most w ↦ let h = w.if-row_at-most.false in subst (λ (i : ℕ). record { row = i; rows = rows } ≡ half t a.most a.part.row a.part.rows) (sym w.row-is) (lower t a.most a.part.row a.part.rows (omega (arith, e)))
     ]

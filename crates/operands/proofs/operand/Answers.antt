@@ -3,7 +3,6 @@ use mathlib.Core.Path.{refl, subst}
 use native.Mathlib.Nat.{le_refl}
 use native.Mathlib.Numerals.{add-one}
 use native.Mathlib.Omega.{arith}
-use borrow.Author.Rules.{rules}
 use lib.ListN.{length}
 use Rattle.names.specs.Names.{registers, segments, sizes}
 use Rattle.rules.specs.Records.{OR, OS, encode}

@@ -2,7 +2,6 @@
 -- as many size words to come as tokens are left. Each is one token less.
 -- Assumes nothing.
 use Prim.Native.Nat.{ℕ, suc, ◌≤◌}
-use borrow.Author.Rules.{rules}
 use lib.ListN.{length}
 use Rattle.rules.specs.Operands.{operand_sized, operand as rules-operand}
 use Rattle.state.specs.Views.{line, line_of}

@@ -7,7 +7,6 @@ use Rattle.state.specs.Views.{Reads}
 use Rattle.state.proofs.Chain.{starts, still, lands, ends, denied, called, comes, returns as gives, refuses_here, is_ahead, is_kind, is_passed, then_comes, then_denied, first_denied}
 use Rattle.state.proofs.Flat.{plain, mark_ahead, other_ahead, end_ahead}
 use Rattle.operands.proofs.Laws.{hands_operands}
-use borrow.Author.Rules.{rules}
 use Rattle.operands.proofs.operands.Goals as goal
 
 pub returns-then-is_line_end : goal.returns-then-is_line_end

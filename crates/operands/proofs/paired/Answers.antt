@@ -10,9 +10,9 @@ use Rattle.operands.proofs.paired.Goals.{then-r-eq-BX, else-r-eq-BX, then-q-eq-S
 
 pub overflow_add-result : goal.overflow_add-result
 overflow_add-result c = elim c.if-r-eq-BX.branch [
-    then-r-eq-BX a ↦ elim c.if-q-eq-SI.branch [ then-q-eq-SI b ↦ omega arith | else-q-eq-SI b ↦ omega arith ]
-    | else-r-eq-BX a ↦ elim c.if-q-eq-SI.branch [ then-q-eq-SI b ↦ omega arith | else-q-eq-SI b ↦ omega arith ]
-  ]
+  | then-r-eq-BX a ↦ elim c.if-q-eq-SI.branch [ then-q-eq-SI b ↦ omega arith | else-q-eq-SI b ↦ omega arith ]
+  | else-r-eq-BX a ↦ elim c.if-q-eq-SI.branch [ then-q-eq-SI b ↦ omega arith | else-q-eq-SI b ↦ omega arith ]
+]
 
 pub returns : goal.returns
 unfolding paired

@@ -37,17 +37,16 @@ formed_2 c =
     well_formed_lem _ _ _ _ _ _ (sym c.well_formed-2.ensures ∙ c.if-not-well_formed.false)
 
 pub plan_line-requires : goal.plan_line-requires
-plan_line-requires c =
-    (
-      c.requires.0,
-      c.requires.2,
-      c.requires.3,
-      c.requires.4,
-      begins_within c.args.old.now c.args.place c.requires.5,
-      c.requires.6,
-      c.requires.7,
-      (formed_2 c).decodes,
-    )
+plan_line-requires c = (
+  c.requires.0,
+  c.requires.2,
+  c.requires.3,
+  c.requires.4,
+  begins_within c.args.old.now c.args.place c.requires.5,
+  c.requires.6,
+  c.requires.7,
+  (formed_2 c).decodes,
+)
 
 formed_3 : (c : goal.After-plan_line) → Formed c.args.old.now c.args.listing.now c.args.place c.args.text.now c.args.source_room c.args.listing_room
 formed_3 c =

@@ -17,7 +17,7 @@ returns c =
     let a = c.args in
     let same : take (c.if-n-gt65537.end - 0) a.input.now ≡ take a.n a.input.now =
     elim c.if-n-gt65537.branch [
-      then-n-gt65537 w ↦ cut_off a.n _ a.input.now c.told-input w.if-n-gt65537.true w.end-is
+      | then-n-gt65537 w ↦ cut_off a.n _ a.input.now c.told-input w.if-n-gt65537.true w.end-is
       | else-n-gt65537 w ↦ not_cut_off a.n _ a.input.now w.end-is
     ] in
     let said = c.answer_text.ensures in

@@ -1,4 +1,3 @@
-use Prim.Native.Nat.{◌-◌}
 use mathlib.Core.Logic.{inl, inr}
 use native.Mathlib.Omega.{arith}
 use Rattle.reader.proofs.Lending.{asked_starts, asked_on, asked_end}
@@ -15,9 +14,9 @@ loop-i-preserved c =
     let h = c.loop-i-test.true in (
       omega arith,
       elim c.if-most-c.branch [
-          then-most-c w ↦ let t = w.if-most-c.true in let e = w.most-is in asked_on s l.i l.most l.invariant.1 h c.if-most-c.most (omega arith) (omega arith) (inr e)
-          | else-most-c w ↦ let t = w.if-most-c.false in let e = w.most-is in asked_on s l.i l.most l.invariant.1 h c.if-most-c.most (omega arith) (omega arith) (inl e)
-        ],
+        | then-most-c w ↦ let t = w.if-most-c.true in let e = w.most-is in asked_on s l.i l.most l.invariant.1 h c.if-most-c.most (omega arith) (omega arith) (inr e)
+        | else-most-c w ↦ let t = w.if-most-c.false in let e = w.most-is in asked_on s l.i l.most l.invariant.1 h c.if-most-c.most (omega arith) (omega arith) (inl e)
+      ],
     )
 
 pub returns : goal.returns

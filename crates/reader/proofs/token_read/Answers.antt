@@ -2,7 +2,6 @@
 -- Assumes nothing.
 use mathlib.Core.Path.{sym, ◌∙◌}
 use native.Mathlib.Omega.{arith}
-use Rattle.rules.specs.Reader.{at}
 use Rattle.reader.proofs.Lending.{token_denied, token_given, token_refused, within}
 use Rattle.reader.proofs.token_read.Goals as goal
 

@@ -1,4 +1,3 @@
-use Prim.Native.Nat.{◌-◌}
 use borrow.Author.Rules.{rules}
 use Rattle.text.proofs.Puts.{nothing, wrote_length, one_more, no_more}
 use Rattle.text.proofs.put_all.Goals as goal

@@ -7,7 +7,7 @@ use Rattle.rules.specs.Calls.{unless}
 use Rattle.rules.specs.Evaluate.{signed32, evaluate}
 use Rattle.operators.specs.declared.Operator.{Operator}
 use Rattle.operators.specs.Operators.{operator_number}
-use Rattle.operators.proofs.Evaluate.{sum_fits, difference_fits, product_fits, quotient_fits, widens, op_fits, op_is, divisor_zero, divisor_other, divisor_positive}
+use Rattle.operators.proofs.Evaluate.{sum_fits, difference_fits, product_fits, quotient_fits, widens, op_fits, op_is, divisor_zero, divisor_other}
 use Rattle.operators.proofs.Operator.evaluate.Goals as goal
 
 by-operator : {o o' : Operator} (a b : ℤ) → o ≡ o' → evaluate (operator_number o) a b ≡ evaluate (operator_number o') a b

@@ -1,6 +1,5 @@
 -- The invariant: a line begins below, and the nearest above it is the nearest above the place.
 -- Assumes nothing.
-use Prim.Native.Nat.{◌-◌}
 use mathlib.Core.Path.{◌≡◌}
 use mathlib.Core.Bool.{true, false}
 use mathlib.Core.List.{[]}
