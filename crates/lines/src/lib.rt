@@ -57,8 +57,9 @@ pub fn copy(out: &mut [u8], at: usize, run: &[u8])
     requires { at + length run.now ≤ length out.old }
     ensures { out.new ≡ stores out.old at run.now }
 {
-    let end = at + run.len();
-    out[at..end].copy_from_slice(run);
+    for i in 0..run.len() {
+        out[at + i] = run[i];
+    }
 }
 
 // The source with the line from `place` to `end` exchanged.

@@ -128,7 +128,7 @@ fn keep_and_copy(
                 return FullAnswer::Refused(refused_at(LISTING_NO_ROOM, 0, 0));
             }
             if size <= kept.len() {
-                out[0..size].copy_from_slice(&kept[0..size]);
+                lines::copy(out, 0, &kept[0..size]);
                 return FullAnswer::Written(n);
             }
             match statements(source, table, out, 0, p) {

@@ -15,6 +15,11 @@ sets_append : (l : List ℕ) (i : ℕ) (a b : List ℕ) → sets l i (a ++ b) �
 sets_append l i [] b = rw (add-zero i)
 sets_append l i (x ∷ a) b = sets_append (set l i x) (suc i) a b ∙ ap (λ (k : ℕ). sets (sets (set l i x) (suc i) a) k b) (suc-add i (length a) ∙ sym (add-suc i (length a)))
 
+-- one run behind the other
+pub stores_append : (l : List ℕ) (at : ℕ) (a b : List ℕ) → stores l at (a ++ b) ≡ stores (stores l at a) (at + length a) b
+unfolding stores
+stores_append l at a b = sets_append l at a b
+
 pub stores_length : (l : List ℕ) (at : ℕ) (bs : List ℕ) → length (stores l at bs) ≡ length l
 unfolding stores
 stores_length l at bs = length-sets l at bs

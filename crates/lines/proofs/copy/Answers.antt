@@ -1,13 +1,14 @@
--- The kit's copy, to the part of the buffer that is as long as the run.
-use Rattle.std.proofs.Common.{◌≡◌, sym, ◌∙◌, ◌+◌, ◌-◌, length, drop, take, append_assoc, arith}
-use lib.Seq.{drop-drop}
-use Rattle.records.proofs.Writes.{stores_room}
+use Rattle.std.proofs.Common.{◌∙◌, ap, ◌+◌, ℕ, List, get_or}
+use lib.ListN.{set}
+use Rattle.records.specs.Writes.{stores}
+use Rattle.lines.proofs.Copies.{stored_none, stored_more}
 use Rattle.lines.proofs.copy.Goals as goal
 
-pub returns : goal.returns
-returns c =
+pub loop-i-init : goal.loop-i-init
+loop-i-init c = stored_none c.args.out.now c.args.at c.args.run.now
+
+pub loop-i-preserved : goal.loop-i-preserved
+loop-i-preserved c =
     let a = c.args in
-    let n = length a.run.now in
-    let count : a.at + length a.run.now - a.at ≡ length a.run.now = omega arith in
-    rw (c.copy_from_slice.ensures.after, count, drop-drop n a.at a.out.now)
-    (sym (append_assoc (take a.at a.out.now) a.run.now (drop (a.at + n) a.out.now)) ∙ sym (stores_room a.out.now a.at a.run.now c.requires))
+    let i = c.loop-i.i in
+    ap (λ (l : List ℕ). set l (a.at + i) (get_or a.run.now i 0)) c.loop-i.invariant ∙ stored_more a.out.now a.run.now a.at i c.loop-i-test.true
