@@ -1,4 +1,4 @@
-//! Links liblaqhoncu.a, which `rt staticlib laqhoncu` writes: from the folder that LAQHONCU_LIBRARY names, or else from where it lies
+//! Links liblaqhoncu.a, which `./build library` writes: from the folder that LAQHONCU_LIBRARY names, or else from where it lies
 //! beside this package, in the repository or under the prefix that `install` was given.
 use std::env;
 use std::path::PathBuf;
@@ -18,7 +18,7 @@ fn main() {
     let Some(folder) = folders.iter().find(|folder| folder.join(ARCHIVE).is_file()) else {
         let looked: Vec<String> = folders.iter().map(|folder| folder.display().to_string()).collect();
         println!("cargo::error={ARCHIVE} is not in {}", looked.join(", nor in "));
-        println!("cargo::error=run `rt staticlib laqhoncu` in the repository, or let LAQHONCU_LIBRARY name the folder that has it");
+        println!("cargo::error=run `./build library` in the repository, or let LAQHONCU_LIBRARY name the folder that has it");
         exit(1);
     };
     // This one alone: cargo takes a file that is not there for a changed one, and would build everything anew each time.

@@ -1,4 +1,5 @@
 -- A record that the rules read and check, as the code does it: the test for room, the tests of its fields, and the stack behind it.
+use Rattle.std.specs.Prelude.{if◌then◌else◌}
 use mathlib.Core.Path.{◌≡◌, refl, sym, ◌∙◌}
 use mathlib.Core.Bool.{Bool, true, false, ◌&&◌}
 use mathlib.Core.List.{List}
@@ -9,7 +10,6 @@ use lib.Dec.{leb, ltb}
 use lib.ListN.{length, take, drop, length-drop}
 use lib.Seq.{length-take-le}
 use borrow.Author.Tests.{le-leb, lt-leb, leb-true, leb-false}
-use Rattle.lexer.specs.Text.{if◌then◌else◌}
 use Rattle.rules.specs.Records.{Record, laden, form_of}
 use Rattle.rules.specs.Decode.{Sized, nth, nths_from, having, data_at, record_of}
 use Rattle.rules.specs.WellFormed.{Stack, given, checked}

@@ -1,4 +1,5 @@
 -- The choices of the machine that the stack goes through.
+use Rattle.std.specs.Prelude.{if◌then◌else◌}
 use mathlib.Core.Path.{◌≡◌, refl, sym, ap, ◌∙◌}
 use mathlib.Core.Bool.{Bool, true, false, ◌&&◌, true≢false, false≢true}
 use mathlib.Core.Option.{Option, none, some}
@@ -6,7 +7,7 @@ use Prim.Native.Nat.{ℕ, ◌+◌, ◌≤◌}
 use native.Mathlib.Numerals.{add-one}
 use lib.Dec.{eqb, leb, ltb}
 use borrow.Author.Tests.{leb-true, ltb-true, eq-eqb, ne_eqb}
-use Rattle.lexer.specs.Text.{if◌then◌else◌, bytes}
+use Rattle.lexer.specs.Text.{bytes}
 use Rattle.lexer.proofs.Branches.{and_split}
 use Rattle.rules.specs.Records.{ST}
 use Rattle.rules.specs.WellFormed.{Stack, given, allow, complete, checked}

@@ -1,7 +1,7 @@
 -- What the checker of a listing answers (41), and its parts. RULES 8.5.
-use Rattle.std.specs.Prelude.{Bool, false, List, ℕ, ◌+◌, ◌*◌, leb, length, take, drop}
+use Rattle.std.specs.Prelude.{Bool, false, List, ℕ, ◌+◌, ◌*◌, leb, length, take, drop, if◌then◌else◌}
 use Rattle.std.proofs.Math.Option.{Option, none, some}
-use Rattle.lexer.specs.Text.{if◌then◌else◌, maybe}
+use Rattle.lexer.specs.Text.{maybe}
 use Rattle.rules.specs.Decode.{Sized, nth, record_of, decode}
 use Rattle.rules.specs.WellFormed.{Stack, given, checked, well_formed}
 use Rattle.checker.specs.declared.Stack.{Stack as Counters}

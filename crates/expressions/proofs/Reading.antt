@@ -1,5 +1,6 @@
 -- Expressions: what there is to read where the code stands, by the byte of the token ahead.
 -- Assumes nothing.
+use Rattle.std.specs.Prelude.{if◌then◌else◌}
 use Prim.Native.Nat.{ℕ, zero, suc, ◌+◌, ◌-◌, ◌≤◌, ◌<◌}
 use Prim.Native.Char.{Char, code}
 use mathlib.Core.Path.{◌≡◌, refl, sym, ap, subst, ◌∙◌}
@@ -11,7 +12,7 @@ use native.Mathlib.Nat.{not-suc-le-zero}
 use borrow.Author.Tests.{ne_eqb}
 use lib.Dec.{eqb, ltb}
 use lib.ListN.{length, get_or, take, drop}
-use Rattle.lexer.specs.Text.{if◌then◌else◌, maybe, is}
+use Rattle.lexer.specs.Text.{maybe, is}
 use Rattle.rules.specs.Lexemes.{Kind, word, number, quoted, mark, Lexeme}
 use Rattle.rules.specs.Records.{Record, VL, VS, VI, PF, IN, encode}
 use Rattle.rules.specs.Reader.{Reader, Line, nowhere, ◌>>=◌, ◌>>◌, return, write, refuse, next, ahead, kind, passed, left, refuse_here, is_mark, expect}

@@ -1,6 +1,6 @@
 -- The answers of the calls as the numbers that Rust and C take: number, span and registers of each case (RULES 9.1, 11.1).
-use Rattle.std.specs.Prelude.{ℕ, ◌*◌, ◌≤◌, ◌≡◌, true, false, List, eqb, ℤ, pos, length, take}
-use Rattle.lexer.specs.Text.{if◌then◌else◌, maybe}
+use Rattle.std.specs.Prelude.{ℕ, ◌*◌, ◌≤◌, ◌≡◌, true, false, List, eqb, ℤ, pos, length, take, if◌then◌else◌}
+use Rattle.lexer.specs.Text.{maybe}
 use Rattle.lexer.specs.Scanned.{end_of_file}
 use Rattle.rules.specs.Statements.{present}
 use Rattle.rules.specs.Calls.{Result, gives, refuses, full_read, full_buffer}

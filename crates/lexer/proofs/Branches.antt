@@ -1,7 +1,7 @@
 -- What holds on both sides of a test holds of the choice between them.
+use Rattle.std.specs.Prelude.{if◌then◌else◌}
 use mathlib.Core.Path.{◌≡◌, refl}
 use mathlib.Core.Bool.{Bool, true, false, ◌&&◌, false≢true, ◌||◌, true≢false}
-use Rattle.lexer.specs.Text.{if◌then◌else◌}
 
 pub branch : {A : Type 0} (b : Bool) (x x' y y' : A) → x ≡ x' → y ≡ y' → ◌≡◌ {A = A} (if b then x else y) (if b then x' else y')
 branch true x x' y y' p q = p

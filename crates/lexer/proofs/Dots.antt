@@ -1,4 +1,5 @@
 -- Dots in names. The run of a name with dots goes on where the run without them meets one, and else ends with it.
+use Rattle.std.specs.Prelude.{if◌then◌else◌}
 use mathlib.Core.Path.{◌≡◌, refl, sym, ap, ◌∙◌}
 use mathlib.Core.Bool.{Bool, true, false, ◌||◌, or-true, or-false, false≢true}
 use mathlib.Core.List.{List, [], ◌∷◌, map}
@@ -9,7 +10,7 @@ use native.Mathlib.Omega.{arith}
 use lib.Dec.{leb}
 use lib.ListN.{get_or}
 use borrow.Author.Tests.{eqb-true, leb-true}
-use Rattle.lexer.specs.Text.{if◌then◌else◌, is, within, is_letter, is_word_part, run}
+use Rattle.lexer.specs.Text.{is, within, is_letter, is_word_part, run}
 use Rattle.lexer.specs.Tokens.{mark, suffixed, token_with, token_at, size_of, open_tokens}
 use Rattle.lexer.specs.Dots.{is_plain_part, plain_token, dot_follows, underscored, DottedNames}
 use Rattle.lexer.specs.declared.PunctuationKind.TheVariants.{Dot}

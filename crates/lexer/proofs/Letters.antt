@@ -1,5 +1,6 @@
 -- The letter behind the digits. The two orders of the suffixes part only where both stand: with none behind the run, and with none at its end, each
 -- comes to the same.
+use Rattle.std.specs.Prelude.{if◌then◌else◌}
 use mathlib.Core.Path.{◌≡◌, refl, sym, ap, ◌∙◌}
 use mathlib.Core.Bool.{Bool, true, false, not, ◌&&◌, ◌||◌, true≢false, false≢true}
 use mathlib.Core.List.{List, [], ◌∷◌}
@@ -10,7 +11,7 @@ use native.Mathlib.Omega.{arith}
 use lib.Dec.{leb, ltb}
 use lib.ListN.{take, get_or}
 use borrow.Author.Tests.{eqb-true, eqb-false, not-true}
-use Rattle.lexer.specs.Text.{if◌then◌else◌, is, any_of, is_digit, is_hex_digit, is_word_part, run, all, last, digit, value_from, open_text}
+use Rattle.lexer.specs.Text.{is, any_of, is_digit, is_hex_digit, is_word_part, run, all, last, digit, value_from, open_text}
 use Rattle.lexer.specs.Tokens.{largest, numeral, stray, digits, suffix_behind, suffix_last, in_base, suffixed, number_with, number_at, token_with, token_at, size_of}
 use Rattle.lexer.specs.Letters.{begins_run, digit_run, behind_run, letter_follows, last_first, last_first_token, LetterFirst}
 use Rattle.lexer.specs.declared.Fault.TheVariants.{LargerDigit}

@@ -1,4 +1,5 @@
 -- From the numbers of a scan back to the token: nothing is lost, since a number is at most the largest and a stray byte is a byte.
+use Rattle.std.specs.Prelude.{if◌then◌else◌}
 use Prim.Native.Nat.{ℕ, suc, ◌+◌, ◌-◌, ◌≤◌, ◌<◌}
 use mathlib.Core.Path.{◌≡◌, refl, ap, ◌∙◌}
 use mathlib.Core.List.{List, [], ◌∷◌}
@@ -10,7 +11,7 @@ use lib.IntN.{pos}
 use lib.ListN.{take, drop, get_or}
 use lib.Seq.{get_or-drop}
 use borrow.Author.Tests.{eq-eqb, ne_eqb, leb-true}
-use Rattle.lexer.specs.Text.{if◌then◌else◌, is, within, any_of, is_blank, is_digit, is_hex_digit, is_letter, run, all, last, digit, value_from}
+use Rattle.lexer.specs.Text.{is, within, any_of, is_blank, is_digit, is_hex_digit, is_letter, run, all, last, digit, value_from}
 use Rattle.lexer.specs.Tokens.{largest, numeral, stray, prefixed, digits, suffix_behind, suffix_last, in_base, suffixed, number_with, number_at, in_quotes, string_after, mark, mark_at, token_with, token_at}
 use Rattle.lexer.specs.Scanned.{scanned_of, token_of, next_of}
 use Rattle.lexer.specs.declared.LiteralKind.TheVariants.{Number, Text}

@@ -1,4 +1,5 @@
 -- Runs of a class and the numbers that digits write, step by step as the loops go.
+use Rattle.std.specs.Prelude.{if◌then◌else◌}
 use Prim.Native.Nat.{ℕ, zero, suc, ◌+◌, ◌*◌, ◌-◌, ◌/◌, ◌%◌, ◌≤◌, ◌<◌}
 use mathlib.Core.Path.{◌≡◌, refl, sym, ◌∙◌}
 use mathlib.Core.List.{List, [], ◌∷◌}
@@ -11,7 +12,7 @@ use lib.Dec.{eqb, leb}
 use lib.ListN.{length, get_or, take, drop, drop_of_length-le}
 use lib.Seq.{drop-cons}
 use borrow.Author.Tests.{eqb-true, eqb-false, le-leb, lt-leb, leb-true, lt-ltb, le-ltb}
-use Rattle.lexer.specs.Text.{if◌then◌else◌, within, is_digit, is_hex_digit, run, all, digit, value_from, open_text}
+use Rattle.lexer.specs.Text.{within, is_digit, is_hex_digit, run, all, digit, value_from, open_text}
 use Rattle.lexer.specs.Tokens.{largest}
 use Rattle.lexer.specs.Runs.{are_hex_digits, valued_from}
 use Rattle.lexer.specs.declared.characters.Value.TheVariants.{Fits, Beyond}

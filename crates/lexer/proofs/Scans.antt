@@ -1,4 +1,5 @@
 -- What is scanned at a place, told from the bytes there: for each way that the code goes, the definition goes the same.
+use Rattle.std.specs.Prelude.{if◌then◌else◌}
 use Prim.Native.Nat.{ℕ, zero, suc, pred, ◌+◌, ◌-◌, ◌≤◌, ◌<◌}
 use mathlib.Core.Path.{◌≡◌, refl, sym, ap, ◌∙◌}
 use mathlib.Core.List.{List, [], ◌∷◌}
@@ -9,7 +10,7 @@ use lib.Dec.{eqb, leb, ltb}
 use lib.ListN.{length, get_or, take, drop, length-drop, drop_of_length-le}
 use lib.Seq.{drop-cons, drop-drop, get_or-drop}
 use borrow.Author.Tests.{eq-eqb, ne_eqb, eqb-true, lt-ltb, not-true}
-use Rattle.lexer.specs.Text.{if◌then◌else◌, is, any_of, is_blank, is_digit, is_hex_digit, is_letter, is_word_part, within, run, all, last, digit, value_from, open_text}
+use Rattle.lexer.specs.Text.{is, any_of, is_blank, is_digit, is_hex_digit, is_letter, is_word_part, within, run, all, last, digit, value_from, open_text}
 use Rattle.lexer.specs.Tokens.{largest, numeral, stray, prefixed, digits, suffix_behind, suffix_last, in_base, suffixed, number_with, number_at, in_quotes, string_after, in_comment, mark_at, token_with, token_at, open_tokens}
 use Rattle.lexer.specs.Runs.{valued_from, up_to_one, are_hex_digits, after_zero}
 use Rattle.lexer.specs.Scanned.{scanned_of, is_mark}

@@ -1,5 +1,6 @@
 -- A token depends on its own line alone: what stands behind the next line feed, and whether the line ends in one or with the source,
 -- does not change it. No run and no suffix takes a line feed, so none can tell one from the end.
+use Rattle.std.specs.Prelude.{if◌then◌else◌}
 use mathlib.Core.Path.{◌≡◌, refl, sym, ap, ◌∙◌}
 use mathlib.Core.Bool.{Bool, true, false, not}
 use mathlib.Core.List.{List, [], ◌∷◌, ◌++◌}
@@ -7,7 +8,7 @@ use Prim.Native.Nat.{ℕ, zero, suc, pred, ◌≤◌}
 use native.Mathlib.Omega.{arith}
 use native.Mathlib.Nat.{le_refl}
 use lib.ListN.{take, get_or}
-use Rattle.lexer.specs.Text.{if◌then◌else◌, within, any_of, is, is_blank, is_digit, is_hex_digit, is_word_part, run, open_text}
+use Rattle.lexer.specs.Text.{within, any_of, is, is_blank, is_digit, is_hex_digit, is_word_part, run, open_text}
 use Rattle.lexer.specs.declared.TokenRead.{TokenRead}
 use Rattle.lexer.specs.Tokens.{prefixed, suffix_behind, in_base, suffixed, number_with, number_at, in_quotes, string_after, in_comment, token_with, token_at}
 use Rattle.lexer.proofs.Branches.{branch, either}

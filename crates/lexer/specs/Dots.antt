@@ -1,7 +1,7 @@
 -- Dots in names (RULES 2.3), and which tokens they change. The rule itself is `is_word_part`, in Text.
-use Rattle.std.specs.Prelude.{◌≡◌, Bool, true, false, ◌&&◌, ◌||◌, List, [], ◌∷◌, map, ℕ, ◌<◌, get_or}
+use Rattle.std.specs.Prelude.{◌≡◌, Bool, true, false, ◌&&◌, ◌||◌, List, [], ◌∷◌, map, ℕ, ◌<◌, get_or, if◌then◌else◌}
 use Prim.Native.Char.{code}
-use Rattle.lexer.specs.Text.{if◌then◌else◌, is, is_digit, is_letter, run}
+use Rattle.lexer.specs.Text.{is, is_digit, is_letter, run}
 use Rattle.lexer.specs.Tokens.{mark, suffixed, token_with, token_at, size_of}
 use Rattle.lexer.specs.declared.PunctuationKind.TheVariants.{Dot}
 use Rattle.lexer.specs.declared.TokenRead.{TokenRead}

@@ -1,9 +1,9 @@
 -- Samples of RULES 2.8, computed: numbers and names, where a row that does not hold is named, and all the
 -- digits.
-use Rattle.std.specs.Prelude.{◌≡◌, refl, List, [], ◌∷◌, ℕ, zero, suc}
+use Rattle.std.specs.Prelude.{◌≡◌, refl, List, [], ◌∷◌, ℕ, zero, suc, if◌then◌else◌}
 use Prim.Native.Char.{Char, code}
 use Prim.Native.String.{String}
-use Rattle.lexer.specs.Text.{if◌then◌else◌, bytes, is_hex_digit, digit, open_text}
+use Rattle.lexer.specs.Text.{bytes, is_hex_digit, digit, open_text}
 use Rattle.lexer.specs.Tokens.{numeral, stray, mark, token_at, open_tokens}
 use Rattle.lexer.specs.Dots.{plain_token, open_dots}
 use Rattle.lexer.specs.Letters.{last_first_token, open_letters}

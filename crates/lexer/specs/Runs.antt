@@ -1,7 +1,7 @@
 -- What the code asks of a row of bytes: which class a byte belongs to, and the number that digits write.
-use Rattle.std.specs.Prelude.{Bool, ◌&&◌, List, ℕ, ◌-◌, eqb, leb, ltb, take, drop}
+use Rattle.std.specs.Prelude.{Bool, ◌&&◌, List, ℕ, ◌-◌, eqb, leb, ltb, take, drop, if◌then◌else◌}
 use Prim.Native.Char.{code}
-use Rattle.lexer.specs.Text.{if◌then◌else◌, is, within, is_blank, is_digit, is_hex_digit, is_word_part, all, digit, value_from}
+use Rattle.lexer.specs.Text.{is, within, is_blank, is_digit, is_hex_digit, is_word_part, all, digit, value_from}
 use Rattle.lexer.specs.Tokens.{largest, in_quotes, in_comment}
 use Rattle.lexer.specs.declared.characters.Value.{Value}
 use Rattle.lexer.specs.declared.characters.Value.TheVariants.{Fits, Beyond}

@@ -1,7 +1,7 @@
 -- A token as numbers, which `scan` gives, and the cursor's answer, which has the token itself.
-use Rattle.std.specs.Prelude.{Bool, true, false, ℕ, ◌+◌, ◌%◌, eqb, pos, nat_abs}
+use Rattle.std.specs.Prelude.{Bool, true, false, ℕ, ◌+◌, ◌%◌, eqb, pos, nat_abs, if◌then◌else◌}
 use Prim.Native.Char.{code}
-use Rattle.lexer.specs.Text.{if◌then◌else◌, any_of}
+use Rattle.lexer.specs.Text.{any_of}
 use Rattle.lexer.specs.Tokens.{length_of, size_of, fault_number}
 use Rattle.lexer.specs.declared.LiteralKind.TheVariants.{Number, Text}
 use Rattle.lexer.specs.declared.PunctuationKind.{PunctuationKind}

@@ -1,14 +1,9 @@
 -- Letters and numbers: classes of characters, runs of them, and what digits are worth. RULES 2.
 -- A byte is a number; a text in quotes stands for its bytes.
-use Rattle.std.specs.Prelude.{Bool, true, false, ◌&&◌, ◌||◌, List, [], ◌∷◌, ℕ, suc, ◌+◌, ◌*◌, ◌-◌, eqb, leb}
+use Rattle.std.specs.Prelude.{Bool, true, false, ◌&&◌, ◌||◌, List, [], ◌∷◌, ℕ, suc, ◌+◌, ◌*◌, ◌-◌, eqb, leb, if◌then◌else◌}
 use Rattle.std.proofs.Math.Option.{Option, none, some}
 use Prim.Native.Char.{Char, code}
 use Prim.Native.String.{String}
-
-infix 5 if◌then◌else◌
-abbrev pub if◌then◌else◌ {ℓ} : {A : Type ℓ} → Bool → A → A → A
-if true then a else b = a
-if false then a else b = b
 
 abbrev pub maybe {ℓ} : {A : Type 0} {B : Type ℓ} → Option A → B → (A → B) → B
 maybe none b f = b

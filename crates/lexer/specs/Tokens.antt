@@ -1,7 +1,7 @@
 -- The token at the head of a source's rest. RULES 2.
-use Rattle.std.specs.Prelude.{Bool, true, false, not, ◌&&◌, ◌||◌, List, [], ◌∷◌, ℕ, suc, pred, ◌+◌, eqb, leb, ltb, pos, take, get_or}
+use Rattle.std.specs.Prelude.{Bool, true, false, not, ◌&&◌, ◌||◌, List, [], ◌∷◌, ℕ, suc, pred, ◌+◌, eqb, leb, ltb, pos, take, get_or, if◌then◌else◌}
 use Prim.Native.Char.{code}
-use Rattle.lexer.specs.Text.{if◌then◌else◌, is, within, any_of, is_blank, is_digit, is_hex_digit, is_letter, is_word_part, run, all, last, digit, value_from, open_text}
+use Rattle.lexer.specs.Text.{is, within, any_of, is_blank, is_digit, is_hex_digit, is_letter, is_word_part, run, all, last, digit, value_from, open_text}
 use Rattle.lexer.specs.declared.LiteralKind.TheVariants.{Number, Text}
 use Rattle.lexer.specs.declared.PunctuationKind.{PunctuationKind}
 use Rattle.lexer.specs.declared.PunctuationKind.TheVariants.{CloseBracket, CloseParenthesis, Colon, Comma, Dollar, Dot, ForwardSlash, Minus, OpenBracket, OpenParenthesis, Plus, Star}

@@ -1,5 +1,6 @@
 -- Lines of a source, and what a line says read alone.
 -- Assumes nothing.
+use Rattle.std.specs.Prelude.{if◌then◌else◌}
 use Prim.Native.Nat.{ℕ, zero, suc, pred, ◌+◌, ◌-◌, ◌≤◌, ◌<◌}
 use mathlib.Core.Path.{◌≡◌, refl, sym, ap, ap₂, ◌∙◌}
 use mathlib.Core.Bool.{Bool, true, false, not, ◌||◌, true≢false}
@@ -10,7 +11,7 @@ use borrow.Author.Tests.{eqb-true, eqb-false, eq-eqb, ne_eqb, lt-ltb, le-leb, lt
 use lib.Dec.{eqb, leb, ltb, leb-suc-suc}
 use lib.ListN.{length, take, drop, get_or, length-take, length-drop}
 use lib.Seq.{take-suc, take-add}
-use Rattle.lexer.specs.Text.{if◌then◌else◌, maybe, is, among, run}
+use Rattle.lexer.specs.Text.{maybe, is, among, run}
 use Rattle.lexer.specs.Tokens.{in_comment}
 use Rattle.lexer.proofs.Runs.{run_le, digits_more, digits_none}
 use Rattle.lexer.proofs.Branches.{and_split}

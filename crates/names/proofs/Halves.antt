@@ -1,5 +1,6 @@
 -- Rows before `row` have lower keys, and rows from `row + rows` on have higher ones; the keys rise, so one probe settles a side.
 -- Where one row is left, no other can have the key.
+use Rattle.std.specs.Prelude.{if◌then◌else◌}
 use mathlib.Core.Path.{◌≡◌, refl, subst, sym, ap}
 use mathlib.Core.Bool.{Bool, true, false}
 use mathlib.Core.List.{List}
@@ -10,7 +11,6 @@ use native.Mathlib.Omega.{arith}
 use lib.Dec.{leb, ltb}
 use borrow.Author.Tests.{ltb-true, ltb-false, leb-true, leb-false, le-leb, lt-leb}
 use lib.ListN.{get_or}
-use Rattle.lexer.specs.Text.{if◌then◌else◌}
 use Rattle.names.specs.declared.Part.{Part}
 use Rattle.names.specs.Names.{rows_in}
 use Rattle.names.specs.Keys.{key_at, eight, half, good_table}

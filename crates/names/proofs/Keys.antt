@@ -1,5 +1,6 @@
 -- A word is a name exactly where their keys agree. A name has no zero among its letters, and a word that has a key ends in none,
 -- so the zeros that fill a key up are told from letters.
+use Rattle.std.specs.Prelude.{if◌then◌else◌}
 use mathlib.Core.Path.{◌≡◌, refl, sym, ap, subst, ◌∙◌}
 use mathlib.Core.Bool.{Bool, true, false, not, ◌&&◌}
 use mathlib.Core.List.{List, [], ◌∷◌, map}
@@ -13,7 +14,7 @@ use lib.Dec.{T, eqb, leb, ltb, eqb→eq, leb→le, ltb→lt}
 use lib.ListN.{length, get_or, drop, get_or-map}
 use lib.Seq.{get_or-drop}
 use borrow.Author.Tests.{eq-eqb, ne_eqb, eqb-false, le-leb, lt-leb, leb-true}
-use Rattle.lexer.specs.Text.{if◌then◌else◌, all, same, lower, within}
+use Rattle.lexer.specs.Text.{all, same, lower, within}
 use Rattle.names.specs.Keys.{joined, seven, eight, key, key_of, spelled}
 
 pub both : (b c : Bool) → T (b && c) → T b × T c

@@ -1,4 +1,5 @@
 -- The table of operations is good: a test that is computed once over all of its rows.
+use Rattle.std.specs.Prelude.{if◌then◌else◌}
 use mathlib.Core.Path.{◌≡◌, refl, ap, ◌∙◌}
 use mathlib.Core.Bool.{Bool, true, false, ◌&&◌, false≢true}
 use mathlib.Core.List.{List, [], ◌∷◌}
@@ -8,7 +9,7 @@ use native.Mathlib.Omega.{arith}
 use lib.Dec.{eqb}
 use borrow.Author.Tests.{eqb-true, eqb-false}
 use Rattle.lexer.proofs.Branches.{and_split}
-use Rattle.lexer.specs.Text.{if◌then◌else◌, maybe, bytes, run, all, open_text}
+use Rattle.lexer.specs.Text.{maybe, bytes, run, all, open_text}
 use Rattle.names.specs.Table.{Spelling, spellings, row, rows_of, operations}
 use Rattle.names.specs.Names.{spelling, directives, operation_from, operation_named}
 use Rattle.names.specs.Keys.{key, spelled, good_from, apart_from, good_table}

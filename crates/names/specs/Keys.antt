@@ -1,8 +1,8 @@
 -- Keys: seven letters as one number, the first highest, so that the keys of rows in rising order rise. A word is looked up by its key.
-use Rattle.std.specs.Prelude.{Bool, true, false, not, ◌&&◌, List, [], ◌∷◌, ℕ, zero, suc, ◌+◌, ◌*◌, ◌-◌, ◌/◌, eqb, leb, ltb, length, get_or, drop}
+use Rattle.std.specs.Prelude.{Bool, true, false, not, ◌&&◌, List, [], ◌∷◌, ℕ, zero, suc, ◌+◌, ◌*◌, ◌-◌, ◌/◌, eqb, leb, ltb, length, get_or, drop, if◌then◌else◌}
 use Rattle.std.proofs.Math.Option.{Option, none, some}
 use Prim.Native.String.{String}
-use Rattle.lexer.specs.Text.{if◌then◌else◌, maybe, bytes, all}
+use Rattle.lexer.specs.Text.{maybe, bytes, all}
 use Rattle.names.specs.declared.Part.{Part}
 use Rattle.names.specs.declared.Name.{Name}
 use Rattle.names.specs.declared.Directive.{Directive}

@@ -1,8 +1,8 @@
 -- What a word names: a register, a segment, a size word, a directive, an operation. Case is ignored. RULES 3.
-use Rattle.std.specs.Prelude.{not, List, [], ◌∷◌, map, ℕ, zero, suc, ◌/◌, eqb, length, take, drop, get_or}
+use Rattle.std.specs.Prelude.{not, List, [], ◌∷◌, map, ℕ, zero, suc, ◌/◌, eqb, length, take, drop, get_or, if◌then◌else◌}
 use Rattle.std.proofs.Math.Option.{Option, none, some}
 use Prim.Native.String.{String}
-use Rattle.lexer.specs.Text.{if◌then◌else◌, maybe, bytes, lower, same, run}
+use Rattle.lexer.specs.Text.{maybe, bytes, lower, same, run}
 use Rattle.names.specs.declared.Found.{Found}
 use Rattle.names.specs.declared.Found.TheVariants as found
 use Rattle.names.specs.declared.Name.{Name}

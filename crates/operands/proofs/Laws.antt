@@ -1,5 +1,6 @@
 -- Operands: what the token ahead names, and that such a token stands within its line; the answers that hold a value.
 -- Assumes nothing.
+use Rattle.std.specs.Prelude.{if◌then◌else◌}
 use Prim.Native.Nat.{ℕ, suc}
 use Prim.Native.String.{String}
 use mathlib.Core.Path.{◌≡◌, refl, sym, ◌∙◌}
@@ -12,7 +13,7 @@ use lib.Dec.{eqb}
 use types.Run.{OneOf}
 use denote.Enum.Declared.{tag_of}
 use Rattle.lexer.proofs.Branches.{or_split}
-use Rattle.lexer.specs.Text.{if◌then◌else◌, maybe, bytes, lower, same}
+use Rattle.lexer.specs.Text.{maybe, bytes, lower, same}
 use Rattle.names.specs.Names.{registers, segments, sizes, named, place_from, name_from, name_of}
 use Rattle.names.specs.declared.Name.{Name}
 use Rattle.names.specs.declared.Name.TheVariants.{Register, Segment, Size, Other}

@@ -1,7 +1,6 @@
 -- Parts of the rules' readers of operands, each a function of the code.
-use Rattle.std.specs.Prelude.{ℕ}
+use Rattle.std.specs.Prelude.{ℕ, if◌then◌else◌}
 use Rattle.std.proofs.Math.Option.{Option, some}
-use Rattle.lexer.specs.Text.{if◌then◌else◌}
 use Rattle.rules.specs.Records.{OF}
 use Rattle.rules.specs.Reader.{Reader, Line, at, ◌>>=◌, ◌>>◌, return, write, refuse, next, passed}
 use Rattle.rules.specs.Expressions.{expression}

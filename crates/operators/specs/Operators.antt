@@ -1,6 +1,5 @@
 -- The declared operators and the answers of their functions, in the numbers of RULES 8.3 and 11.1.
-use Rattle.std.specs.Prelude.{ℕ, ◌≤◌, ℤ, ltb}
-use Rattle.lexer.specs.Text.{if◌then◌else◌}
+use Rattle.std.specs.Prelude.{ℕ, ◌≤◌, ℤ, ltb, if◌then◌else◌}
 use Rattle.rules.specs.Reader.{nowhere}
 use Rattle.rules.specs.Calls.{Result, gives, refuses}
 use Rattle.rules.specs.Expressions.{prefix_level}

@@ -1,5 +1,6 @@
 -- The new line read in its place: what stands of the edited source is cut off behind its line feed.
 -- Assumes nothing.
+use Rattle.std.specs.Prelude.{if◌then◌else◌}
 use Prim.Native.Nat.{ℕ, zero, suc, ◌+◌, ◌-◌, ◌≤◌, ◌<◌}
 use mathlib.Core.Path.{◌≡◌, refl, sym, ap, subst, ◌∙◌}
 use mathlib.Core.Bool.{Bool, true, false}
@@ -10,7 +11,7 @@ use native.Mathlib.Nat.{zero-add}
 use lib.Dec.{ltb}
 use lib.ListN.{length, take, drop, length-append, length-take, length-drop}
 use lib.Seq.{drop_at, take_all, take-append-add, length-take-le, drop-drop}
-use Rattle.lexer.specs.Text.{if◌then◌else◌, run}
+use Rattle.lexer.specs.Text.{run}
 use Rattle.lexer.specs.Tokens.{in_comment}
 use Rattle.lexer.proofs.Runs.{run_le}
 use Rattle.names.specs.Table.{operations}

@@ -1,6 +1,5 @@
 -- The plan of a patch: what is to be exchanged, once all refusals are past. Nothing is lent for writing before that.
-use Rattle.std.specs.Prelude.{ℕ, ◌+◌, ◌-◌, ◌≤◌, ◌≡◌, List, ltb, length, take, drop}
-use Rattle.lexer.specs.Text.{if◌then◌else◌}
+use Rattle.std.specs.Prelude.{ℕ, ◌+◌, ◌-◌, ◌≤◌, ◌≡◌, List, ltb, length, take, drop, if◌then◌else◌}
 use Rattle.refusals.specs.Refusals.{spanned}
 use Rattle.rules.specs.Records.{Record, listing}
 use Rattle.rules.specs.Reader.{Cause, numbers_of}

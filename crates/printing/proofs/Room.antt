@@ -1,4 +1,5 @@
 -- How long text is: a number has at most 20 digits, and a byte at most 3.
+use Rattle.std.specs.Prelude.{if◌then◌else◌}
 use Prim.Native.Nat.{ℕ, zero, suc, ◌+◌, ◌*◌, ◌-◌, ◌/◌, ◌%◌, ◌≤◌, ◌<◌}
 use mathlib.Core.Path.{◌≡◌, refl, ap}
 use mathlib.Core.Bool.{Bool, true, false}
@@ -7,7 +8,7 @@ use native.Mathlib.Omega.{arith}
 use lib.Dec.{ltb}
 use lib.ListN.{length, length-append, length-take, take, drop, get_or}
 use borrow.Author.Tests.{lt-ltb}
-use Rattle.lexer.specs.Text.{if◌then◌else◌, bytes}
+use Rattle.lexer.specs.Text.{bytes}
 use Rattle.rules.specs.Decode.{nth, nths_from}
 use Rattle.text.specs.Text.{decimal_in, decimal, signed, numbers}
 use Rattle.printing.specs.Lines.{line, refusal_text}

@@ -1,4 +1,5 @@
 -- Which record stands behind a mark, and its line.
+use Rattle.std.specs.Prelude.{if◌then◌else◌}
 use Prim.Native.Nat.{ℕ, ◌+◌, ◌-◌, ◌*◌, ◌≤◌, ◌<◌}
 use mathlib.Core.Path.{◌≡◌, refl, sym, ap, ◌∙◌}
 use mathlib.Core.Bool.{Bool, true, false, not, ◌||◌, false≢true, true≢false}
@@ -8,7 +9,7 @@ use native.Mathlib.Omega.{arith}
 use lib.ListN.{length, take, drop, get_or, length-drop, length-take, length-append}
 use lib.Seq.{length-take-le, take_all}
 use borrow.Author.Tests.{lt-leb, le-leb}
-use Rattle.lexer.specs.Text.{if◌then◌else◌, bytes, same}
+use Rattle.lexer.specs.Text.{bytes, same}
 use Rattle.rules.specs.Records.{Form, form_of, plain, VC, LD, Cell, a_place, a_number, a_signed, cells, cells_of}
 use Rattle.rules.specs.Decode.{nth, nths_from, having, data_at, formed, record_of}
 use Rattle.rules.proofs.Forms.{same_true, found, two_letters as letters_two}

@@ -1,5 +1,6 @@
 -- The first byte above 127, found byte by byte, and what it says of a source.
 -- Assumes nothing.
+use Rattle.std.specs.Prelude.{if◌then◌else◌}
 use Prim.Native.Nat.{ℕ, suc, ◌+◌, ◌≤◌, ◌<◌}
 use mathlib.Core.Path.{◌≡◌, refl, sym, ap, subst, ◌∙◌}
 use mathlib.Core.Bool.{Bool, true, false, ◌&&◌}
@@ -13,7 +14,7 @@ use lib.Dec.{T, ltb, leb}
 use lib.ListN.{length, drop, get_or, drop_of_length-le, length-drop}
 use lib.Seq.{drop-cons}
 use borrow.Author.Tests.{lt-ltb, le-ltb, ltb-true, ltb-false, le-leb, lt-leb}
-use Rattle.lexer.specs.Text.{if◌then◌else◌, maybe}
+use Rattle.lexer.specs.Text.{maybe}
 use Rattle.rules.specs.Reader.{Cause, at, nowhere, numbers_of}
 use Rattle.refusals.specs.declared.Refusal.{Refusal}
 use Rattle.lexer.specs.Tokens.{token_at, size_of, fault_number}

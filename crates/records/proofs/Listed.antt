@@ -1,5 +1,6 @@
 -- The records of a listing and their bytes: from a place on, below a place, and moved.
 -- Assumes nothing.
+use Rattle.std.specs.Prelude.{if◌then◌else◌}
 use mathlib.Core.Path.{◌≡◌, refl, sym, ap, ◌∙◌}
 use mathlib.Core.Bool.{Bool, true, false}
 use mathlib.Core.List.{List, [], ◌∷◌}
@@ -9,7 +10,7 @@ use native.Mathlib.Omega.{arith}
 use lib.ListN.{length, take, drop, get_or, length-append, length-drop}
 use lib.Seq.{take_at}
 use borrow.Author.Tests.{leb-false, lt-leb}
-use Rattle.lexer.specs.Text.{if◌then◌else◌, maybe}
+use Rattle.lexer.specs.Text.{maybe}
 use Rattle.rules.specs.Records.{Role, a_statement, a_times, an_expression, an_operand, a_line, Form, form_of, Record, mark_of, fields_of, listing}
 use Rattle.rules.specs.Decode.{decode}
 use Rattle.rules.specs.Patch.{begins_from, statement_from, records_below, records_on}

@@ -1,5 +1,6 @@
 -- What a mark says of its record: how many fields it has, whether it has data or begins a statement, and which fields are places.
 -- Assumes nothing.
+use Rattle.std.specs.Prelude.{if◌then◌else◌}
 use mathlib.Core.Path.{◌≡◌, refl, sym, ap, ◌∙◌}
 use mathlib.Core.Bool.{Bool, true, false, ◌||◌, true≢false, false≢true}
 use mathlib.Core.List.{List, [], ◌∷◌, map}
@@ -9,7 +10,7 @@ use native.Mathlib.Omega.{arith}
 use lib.Dec.{eqb}
 use lib.ListN.{length, get_or}
 use borrow.Author.Tests.{eqb-true}
-use Rattle.lexer.specs.Text.{if◌then◌else◌, maybe, among, bytes, same}
+use Rattle.lexer.specs.Text.{maybe, among, bytes, same}
 use Rattle.rules.specs.Records.{Role, a_statement, a_times, an_expression, an_operand, a_line, Form, forms, form_in, form_of, Cell, a_place, a_number, a_signed, cells, cells_of}
 use Rattle.rules.specs.Patch.{begins_from}
 use Rattle.rules.proofs.Forms.{same_true, found}

@@ -1,5 +1,6 @@
 -- One record of a listing: where its bytes end, and what its mark and its fields say of it.
 -- Assumes nothing.
+use Rattle.std.specs.Prelude.{if◌then◌else◌}
 use mathlib.Core.Path.{◌≡◌, refl, sym, ap, ◌∙◌}
 use mathlib.Core.Bool.{true, false, true≢false}
 use mathlib.Core.List.{List, [], ◌∷◌, ◌++◌, append_assoc}
@@ -10,7 +11,7 @@ use native.Mathlib.Nat.{add-zero}
 use lib.Dec.{leb}
 use lib.ListN.{length, take, drop, get_or, length-append, length-drop, get_or-append}
 use lib.Seq.{drop-drop, drop_at, get_or-drop}
-use Rattle.lexer.specs.Text.{if◌then◌else◌, maybe, bytes}
+use Rattle.lexer.specs.Text.{maybe, bytes}
 use Rattle.rules.specs.Records.{Form, form_of, Record, plain, laden, mark_of, fields_of, cells, field, fields, encode, listing}
 use Rattle.rules.specs.Decode.{Sized, nth, record_of, also, records_from, decode}
 use Rattle.rules.specs.Patch.{begins_from, statement_from}

@@ -1,6 +1,6 @@
 -- A record's mark, how many fields it has, and a field at a place of bytes.
-use Rattle.std.specs.Prelude.{Bool, true, false, List, [], ◌∷◌, ℕ, ◌+◌, ◌/◌, ◌%◌, length, take, drop}
-use Rattle.lexer.specs.Text.{if◌then◌else◌, maybe}
+use Rattle.std.specs.Prelude.{Bool, true, false, List, [], ◌∷◌, ℕ, ◌+◌, ◌/◌, ◌%◌, length, take, drop, if◌then◌else◌}
+use Rattle.lexer.specs.Text.{maybe}
 use Rattle.rules.specs.Records.{form_of, cells}
 use Rattle.rules.specs.Decode.{value}
 

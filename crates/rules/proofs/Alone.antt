@@ -1,4 +1,5 @@
 -- A line that is read alone (40): with any room the full read leaves the same open, and a line that may be read is left open where its reading is.
+use Rattle.std.specs.Prelude.{if◌then◌else◌}
 use mathlib.Core.Path.{◌≡◌, refl, sym, ap, ◌∙◌}
 use mathlib.Core.Bool.{Bool, true, false, true≢false}
 use mathlib.Core.List.{List, [], ◌∷◌, ◌++◌}
@@ -7,7 +8,7 @@ use Prim.Native.Nat.{ℕ, suc, ◌+◌, ◌≤◌}
 use native.Mathlib.Omega.{arith}
 use lib.Dec.{eqb, ltb}
 use lib.ListN.{length, length-append}
-use Rattle.lexer.specs.Text.{if◌then◌else◌, maybe, is}
+use Rattle.lexer.specs.Text.{maybe, is}
 use Rattle.rules.specs.Records.{Record, listing}
 use Rattle.rules.specs.Reader.{at, nowhere, encoding, numbers_of, Answer, done, refused}
 use Rattle.rules.specs.Statements.{Profile, State, Outcome, accepted, refusal, outcome, reading}

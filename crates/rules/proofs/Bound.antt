@@ -1,5 +1,6 @@
 -- A listing is never longer than 18 times its source: the tokens pay for the records statement by statement (Cost), from the first to the
 -- last. What Cost asks of the tokens, that a number never stands right behind a word, holds since a word takes all letters and digits.
+use Rattle.std.specs.Prelude.{if◌then◌else◌}
 use mathlib.Core.Path.{◌≡◌, refl, sym, ap, ◌∙◌}
 use mathlib.Core.Bool.{Bool, true, false, ◌||◌, true≢false, false≢true}
 use mathlib.Core.List.{List, [], ◌∷◌, ◌++◌}
@@ -7,7 +8,7 @@ use Prim.Native.Nat.{ℕ, zero, suc, pred, ◌+◌, ◌*◌, ◌≤◌, ◌<◌,
 use native.Mathlib.Omega.{arith}
 use lib.ListN.{length, length-append}
 use mathlib.Core.Option.{Option, none, some}
-use Rattle.lexer.specs.Text.{if◌then◌else◌, maybe, is, is_digit, is_letter, is_word_part, run}
+use Rattle.lexer.specs.Text.{maybe, is, is_digit, is_letter, is_word_part, run}
 use Rattle.lexer.specs.Tokens.{token_at, size_of}
 use Rattle.lexer.specs.declared.LiteralKind.TheVariants.{Number, Text}
 use Rattle.lexer.specs.declared.Token.TheVariants.{Whitespace, Identifier, Literal, Punctuation, Comment, NewLine, EndOfFile, Invalid}

@@ -1,4 +1,5 @@
 -- The bound for statements and sources.
+use Rattle.std.specs.Prelude.{if◌then◌else◌}
 use mathlib.Core.Path.{◌≡◌, refl, sym, subst}
 use mathlib.Core.Bool.{Bool, true, false, ◌&&◌, ◌||◌, true≢false}
 use mathlib.Core.List.{List, [], ◌∷◌, ◌++◌, map}
@@ -10,7 +11,7 @@ use native.Mathlib.Nat.{le_refl}
 use lib.Dec.{eqb, leb, ltb}
 use lib.ListN.{length, length-map}
 use borrow.Author.Tests.{leb-true}
-use Rattle.lexer.specs.Text.{if◌then◌else◌, maybe, bytes, lower, same, open_text}
+use Rattle.lexer.specs.Text.{maybe, bytes, lower, same, open_text}
 use Rattle.lexer.proofs.Branches.{and_split}
 use Rattle.rules.specs.Lexemes.{Kind, Lexeme, text_of, name_in, operation_in}
 use Rattle.names.specs.Names.{directives, named, operation_named, place_from}

@@ -1,4 +1,5 @@
 -- A source of whole lines A and what follows. What A's reading and that of A ++ B say of one another.
+use Rattle.std.specs.Prelude.{if◌then◌else◌}
 use mathlib.Core.Path.{◌≡◌, refl, sym, ap, ap₂, ◌∙◌}
 use mathlib.Core.Bool.{Bool, true, false, ◌&&◌, true≢false, false≢true}
 use mathlib.Core.List.{List, [], ◌∷◌, ◌++◌, map, append-nil}
@@ -8,7 +9,7 @@ use Prim.Native.Nat.{ℕ, zero, suc, pred, ◌+◌, ◌≤◌, zero-le}
 use native.Mathlib.Omega.{arith}
 use lib.Dec.{eqb}
 use lib.ListN.{length}
-use Rattle.lexer.specs.Text.{if◌then◌else◌, maybe}
+use Rattle.lexer.specs.Text.{maybe}
 use Rattle.lexer.specs.Tokens.{token_at, size_of}
 use Rattle.lexer.specs.declared.TokenRead.{TokenRead}
 use Rattle.rules.specs.Lexemes.{newline, Lexeme, is_gap, kind_of, put, lexeme, tokens_by, tokens_from}

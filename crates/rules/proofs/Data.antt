@@ -1,5 +1,6 @@
 -- Data lines. The reading that takes the numbers that fit their data word, beside the one that takes any: both give the same records, of which
 -- each LD is a data line's with every number's bytes, or both refuse alike, or the first refuses, with 60, a number that is too wide.
+use Rattle.std.specs.Prelude.{if◌then◌else◌}
 use mathlib.Core.Path.{◌≡◌, refl, sym, ap, ◌∙◌}
 use mathlib.Core.Bool.{Bool, true, false, not, ◌||◌, true≢false}
 use mathlib.Core.List.{List, [], ◌∷◌, ◌++◌}
@@ -10,7 +11,7 @@ use native.Mathlib.Omega.{arith}
 use lib.Dec.{eqb, ltb}
 use lib.ListN.{length, take, drop}
 use borrow.Author.Tests.{eqb-true, eqb-false, ltb-true, ltb-false, leb-true, leb-false}
-use Rattle.lexer.specs.Text.{if◌then◌else◌, maybe, is, among}
+use Rattle.lexer.specs.Text.{maybe, is, among}
 use Rattle.lexer.specs.Tokens.{token_at}
 use Rattle.lexer.proofs.Branches.{either, or_split}
 use Rattle.rules.specs.Lexemes.{Kind, word, number, quoted, mark, newline, blank, comment, invalid, end, bad, Lexeme, tokens_from, tokens, name_in, operation_in}

@@ -1,4 +1,5 @@
 -- DEMAND 3. The patch answers as the full read of the edited source.
+use Rattle.std.specs.Prelude.{if◌then◌else◌}
 use mathlib.Core.Path.{◌≡◌, refl, sym, ap, ◌∙◌}
 use mathlib.Core.Bool.{Bool, true, false, not, ◌||◌, true≢false}
 use mathlib.Core.List.{List, [], ◌∷◌, ◌++◌, append_assoc, append-nil}
@@ -9,7 +10,7 @@ use lib.Dec.{eqb, leb, ltb}
 use lib.ListN.{length, take, drop, get_or, length-append, take-append-drop}
 use lib.Seq.{length-take-le}
 use borrow.Author.Tests.{ne_eqb, le-ltb, ltb-false, eqb-true, leb-true}
-use Rattle.lexer.specs.Text.{if◌then◌else◌, maybe, is, among, run}
+use Rattle.lexer.specs.Text.{maybe, is, among, run}
 use Rattle.lexer.specs.Tokens.{in_comment}
 use Rattle.rules.specs.Records.{Record, listing}
 use Rattle.rules.specs.Reader.{Cause, at, nowhere, done}

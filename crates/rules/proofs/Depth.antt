@@ -1,11 +1,12 @@
 -- Where more `times` may stand within one another, the same is read, unless the limit (5) was met.
+use Rattle.std.specs.Prelude.{if◌then◌else◌}
 use mathlib.Core.Bool.{Bool, true, false}
 use mathlib.Core.List.{List}
 use mathlib.Core.Option.{Option, none, some}
 use Prim.Native.Nat.{ℕ, zero, suc, ◌≤◌}
 use native.Mathlib.Omega.{arith}
 use lib.Dec.{ltb, eqb}
-use Rattle.lexer.specs.Text.{if◌then◌else◌, maybe}
+use Rattle.lexer.specs.Text.{maybe}
 use Rattle.rules.specs.Lexemes.{Lexeme, name_in, operation_in}
 use Rattle.names.specs.Names.{directives}
 use Rattle.rules.specs.Records.{Record}

@@ -1,5 +1,6 @@
 -- Dots in names. Where none follows a name directly, both rules give the same tokens; where one does, the old rule gives a dot, which no reading
 -- accepts.
+use Rattle.std.specs.Prelude.{if◌then◌else◌}
 use mathlib.Core.Path.{◌≡◌, refl, ◌∙◌}
 use mathlib.Core.Bool.{Bool, true, false, true≢false, false≢true}
 use mathlib.Core.List.{List, [], ◌∷◌}
@@ -9,7 +10,7 @@ use Prim.Native.Nat.{ℕ, zero, suc, pred}
 use Prim.Native.Char.{code}
 use lib.ListN.{length, get_or}
 use borrow.Author.Tests.{eqb-true}
-use Rattle.lexer.specs.Text.{if◌then◌else◌, maybe, is, is_letter, run}
+use Rattle.lexer.specs.Text.{maybe, is, is_letter, run}
 use Rattle.lexer.specs.Tokens.{suffixed, token_with, token_at, size_of, open_tokens}
 use Rattle.lexer.specs.Dots.{is_plain_part, plain_token, dot_follows}
 use Rattle.lexer.specs.declared.TokenRead.{TokenRead}

@@ -1,5 +1,6 @@
 -- A dot that is a token of its own is accepted nowhere: where one stands ahead, in the line or in a row below, one still does behind whatever is
 -- read. So a reading that comes to its end has met none.
+use Rattle.std.specs.Prelude.{if◌then◌else◌}
 use mathlib.Core.Path.{◌≡◌, refl, sym, ap, subst, ◌∙◌}
 use mathlib.Core.Bool.{Bool, true, false, ◌||◌, true≢false, false≢true}
 use mathlib.Core.List.{List, [], ◌∷◌, ◌++◌}
@@ -10,7 +11,7 @@ use Prim.Native.String.{String}
 use lib.Dec.{eqb, ltb}
 use lib.ListN.{take}
 use borrow.Author.Tests.{eqb-true}
-use Rattle.lexer.specs.Text.{if◌then◌else◌, is}
+use Rattle.lexer.specs.Text.{is}
 use Rattle.rules.specs.Lexemes.{Kind, word, number, quoted, mark, newline, blank, comment, invalid, end, bad, Lexeme, text_of, name_in, operation_in}
 use Rattle.names.specs.Names.{registers, segments, sizes, directives}
 use Rattle.rules.specs.Records.{Record, ST, LT, field}

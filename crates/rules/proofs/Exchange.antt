@@ -1,4 +1,5 @@
 -- A line exchanged: the parts of an accepted source are accepted, and what the edited source gives.
+use Rattle.std.specs.Prelude.{if◌then◌else◌}
 use mathlib.Core.Path.{◌≡◌, refl, sym, ap, ap₂, ◌∙◌, fun_ext}
 use mathlib.Core.Bool.{Bool, true, false, ◌&&◌, true≢false}
 use mathlib.Core.List.{List, [], ◌∷◌, ◌++◌, map, append_assoc, append-nil}
@@ -6,7 +7,6 @@ use mathlib.Core.Option.{none, some}
 use Prim.Native.Nat.{ℕ, suc, ◌+◌, ◌-◌}
 use native.Mathlib.Omega.{arith}
 use lib.ListN.{length, take, drop, length-append}
-use Rattle.lexer.specs.Text.{if◌then◌else◌}
 use Rattle.rules.specs.Lexemes.{Lexeme, tokens_from}
 use Rattle.rules.specs.Records.{Record, plain, laden, Cell, a_place, a_number, a_signed, cells_of, move_cells, move_record}
 use Rattle.rules.specs.Reader.{Cause, Answer, done, refused, after, is_line_end}

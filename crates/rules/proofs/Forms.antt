@@ -1,4 +1,5 @@
 -- What holds of every description of a record, and so of the one that a mark has; and the fields that the check lets pass.
+use Rattle.std.specs.Prelude.{if◌then◌else◌}
 use mathlib.Core.Path.{◌≡◌, refl, ap, ap₂, ◌∙◌, subst}
 use mathlib.Core.Bool.{Bool, true, false, not, ◌&&◌, true≢false, false≢true}
 use mathlib.Core.List.{List, [], ◌∷◌}
@@ -8,7 +9,7 @@ use native.Mathlib.Omega.{arith}
 use lib.Dec.{eqb, leb, ltb}
 use lib.ListN.{length}
 use borrow.Author.Tests.{eqb-true, leb-true, ltb-true}
-use Rattle.lexer.specs.Text.{if◌then◌else◌, maybe, bytes, same}
+use Rattle.lexer.specs.Text.{maybe, bytes, same}
 use Rattle.lexer.proofs.Branches.{and_split}
 use Rattle.rules.specs.Records.{Field, start, span, value, below, Role, a_statement, a_times, an_expression, an_operand, a_line, Form, forms, form_in, form_of, Record, plain, laden, mark_of, fields_of, Cell, cells}
 use Rattle.rules.specs.WellFormed.{Stack, spans, given, ranges, in_range, makes, checked}

@@ -1,4 +1,5 @@
 -- The reader of expressions passes what the grammar derives, and nothing else, and no tokens have two trees: `one_reading`.
+use Rattle.std.specs.Prelude.{if◌then◌else◌}
 use mathlib.Core.Path.{◌≡◌, refl, sym, ap, ap₂, subst₂, ◌∙◌}
 use mathlib.Core.Bool.{Bool, true, false, true≢false, false≢true}
 use mathlib.Core.List.{List, [], ◌∷◌, ◌++◌, append_assoc, append-nil}
@@ -11,7 +12,7 @@ use native.Mathlib.Nat.{le_refl, le_trans, not-suc-le-zero, add-suc, add-zero, a
 use lib.Dec.{ltb, eqb}
 use lib.ListN.{length, get_or, length-append}
 use borrow.Author.Tests.{lt-ltb, le-ltb, eqb-true, ltb-true, ltb-false}
-use Rattle.lexer.specs.Text.{if◌then◌else◌, maybe, is, bytes, same, open_text}
+use Rattle.lexer.specs.Text.{maybe, is, bytes, same, open_text}
 use Rattle.lexer.specs.Tokens.{token_at}
 use Rattle.rules.specs.Lexemes.{Kind, word, number, quoted, mark, newline, blank, comment, invalid, end, bad, Lexeme, tokens_from, tokens, open_lexemes}
 use Rattle.rules.specs.Records.{Record, mark_of, fields_of, VC, VL, VI, VS, PF, IN}

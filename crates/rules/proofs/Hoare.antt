@@ -1,13 +1,14 @@
 -- A logic of readers. Each record that is written takes something that no reader sees one step on: the stack that the listing's check keeps,
 -- the number of bytes written. `Triple Step P m Q`: from P, m's records lead to Q, or m refuses. It is closed under what readers are made
 -- of, so each reader's proof follows its text.
+use Rattle.std.specs.Prelude.{if◌then◌else◌}
 use mathlib.Core.Path.{◌≡◌, refl}
 use mathlib.Core.Bool.{Bool, true, false}
 use mathlib.Core.List.{List, [], ◌∷◌, ◌++◌}
 use mathlib.Core.Option.{Option, none, some}
 use Prim.Native.Nat.{ℕ}
 use lib.ListN.{length}
-use Rattle.lexer.specs.Text.{if◌then◌else◌, maybe}
+use Rattle.lexer.specs.Text.{maybe}
 use Rattle.rules.specs.Lexemes.{Kind, Lexeme}
 use Rattle.rules.specs.Records.{Record}
 use Rattle.rules.specs.Reader.{Cause, Answer, done, refused, Reader, Line, after, thence, ◌>>=◌, ◌>>◌, return, write, refuse, or_back, attempt, arrive, ahead, kind, passed, left, refuse_here}

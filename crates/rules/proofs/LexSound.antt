@@ -1,5 +1,6 @@
 -- The tokens of bytes stand in order, each with at least a byte, and hold no more than their bytes: each begins where the one before it, and
 -- what is passed over, has ended.
+use Rattle.std.specs.Prelude.{if◌then◌else◌}
 use mathlib.Core.Path.{◌≡◌, refl, ap, ◌∙◌}
 use mathlib.Core.Bool.{Bool, true, false, true≢false}
 use mathlib.Core.List.{List, [], ◌∷◌, ◌++◌}
@@ -7,7 +8,6 @@ use Prim.Native.Nat.{ℕ, zero, suc, pred, ◌+◌, ◌-◌, ◌≤◌, zero-le}
 use native.Mathlib.Omega.{arith}
 use native.Mathlib.Nat.{le_refl}
 use lib.ListN.{length, take, length-append, length-take}
-use Rattle.lexer.specs.Text.{if◌then◌else◌}
 use Rattle.lexer.specs.Tokens.{token_at, size_of}
 use Rattle.lexer.specs.declared.LiteralKind.TheVariants.{Number, Text}
 use Rattle.lexer.specs.declared.Token.TheVariants.{Whitespace, Identifier, Literal, Punctuation, Comment, NewLine, EndOfFile, Invalid}

@@ -1,5 +1,6 @@
 -- The tokens of bytes that stand before others are the tokens of those bytes alone, wherever no token reaches across: before a line feed,
 -- before the end, and behind whole lines. Tokens of bytes that stand elsewhere are the same tokens, moved.
+use Rattle.std.specs.Prelude.{if◌then◌else◌}
 use mathlib.Core.Path.{◌≡◌, refl, sym, ap, ◌∙◌}
 use mathlib.Core.Bool.{Bool, true, false}
 use mathlib.Core.List.{List, [], ◌∷◌, ◌++◌, map, map-append, append-nil, append_assoc}
@@ -7,7 +8,6 @@ use Prim.Native.Nat.{ℕ, zero, suc, pred, ◌+◌, ◌-◌, ◌≤◌}
 use native.Mathlib.Omega.{arith}
 use lib.ListN.{length, drop}
 use lib.Seq.{take-append-le}
-use Rattle.lexer.specs.Text.{if◌then◌else◌}
 use Rattle.lexer.specs.Tokens.{token_at, size_of}
 use Rattle.lexer.specs.declared.LiteralKind.TheVariants.{Number, Text}
 use Rattle.lexer.specs.declared.Token.TheVariants.{Whitespace, Identifier, Literal, Punctuation, Comment, NewLine, EndOfFile, Invalid}

@@ -2,6 +2,7 @@
 -- `Moves` says so for a map of states, records and refusals. In the same walk through the readers rides that a property P of states is
 -- kept, that each refusal is one of M, and that each record written is one of W. All four are closed under what readers are made of, so
 -- each reader's proof follows its text.
+use Rattle.std.specs.Prelude.{if◌then◌else◌}
 use mathlib.Core.Path.{◌≡◌, refl, sym, ap, ◌∙◌}
 use mathlib.Core.Bool.{Bool, true, false, ◌||◌}
 use mathlib.Core.List.{List, [], ◌∷◌, ◌++◌, map}
@@ -10,7 +11,7 @@ use Prim.Native.Nat.{ℕ, zero, suc}
 use Prim.Native.Char.{Char}
 use lib.Dec.{ltb, eqb}
 use lib.ListN.{length-map}
-use Rattle.lexer.specs.Text.{if◌then◌else◌, maybe, is}
+use Rattle.lexer.specs.Text.{maybe, is}
 use Rattle.rules.specs.Lexemes.{Kind, word, number, quoted, mark, newline, blank, comment, invalid, end, bad, Lexeme, name_in}
 use Rattle.rules.specs.Records.{Record, plain, laden, move_record}
 use Rattle.rules.specs.Reader.{Cause, at, nowhere, encoding, Answer, done, refused, Reader, Line, after, thence, ◌>>=◌, ◌>>◌, return, write, refuse, or_back, attempt, refused_as, arrive, step, next, ahead, kind, passed, left, refuse_here, is_mark, is_line_end, expect}

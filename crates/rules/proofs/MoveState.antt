@@ -1,11 +1,12 @@
 -- SHIFT for statements and the reading.
+use Rattle.std.specs.Prelude.{if◌then◌else◌}
 use mathlib.Core.Path.{◌≡◌, refl, ap, ◌∙◌}
 use mathlib.Core.Bool.{Bool, true, false, ◌||◌}
 use mathlib.Core.List.{List, [], ◌∷◌, ◌++◌, map}
 use Prim.Native.Nat.{ℕ, zero, suc}
 use lib.Dec.{ltb, eqb}
 use lib.ListN.{take}
-use Rattle.lexer.specs.Text.{if◌then◌else◌, is}
+use Rattle.lexer.specs.Text.{is}
 use Rattle.rules.specs.Lexemes.{Kind, word, number, quoted, mark, newline, blank, comment, invalid, end, bad, Lexeme, name_in, operation_in}
 use Rattle.names.specs.Names.{directives}
 use Rattle.rules.specs.Records.{field, move_record}

@@ -1,4 +1,5 @@
 -- No refusal has the number 0: none of those that the calls give themselves, and by `mild_or_lacks` none of a reading's.
+use Rattle.std.specs.Prelude.{if◌then◌else◌}
 use mathlib.Core.Path.{◌≡◌, refl, ap}
 use mathlib.Core.Bool.{Bool, true, false, true≢false, not, ◌||◌}
 use mathlib.Core.List.{List, [], ◌∷◌, ◌++◌}
@@ -11,7 +12,7 @@ use lib.IntN.{ℤ, nat_abs, ◌+ℤ◌, ◌-ℤ◌, ◌*ℤ◌}
 use lib.Signed.{mag, quot_z}
 use lib.ListN.{length, take, drop}
 use borrow.Author.Tests.{eqb-true}
-use Rattle.lexer.specs.Text.{if◌then◌else◌, maybe, among}
+use Rattle.lexer.specs.Text.{maybe, among}
 use Rattle.lexer.specs.Tokens.{token_at}
 use Rattle.lexer.specs.declared.Fault.TheVariants.{LargerDigit, TooLarge}
 use Rattle.lexer.specs.declared.TokenRead.{TokenRead}

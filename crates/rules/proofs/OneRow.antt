@@ -1,4 +1,5 @@
 -- Bytes without a line feed are one row of tokens: the row that the end closes.
+use Rattle.std.specs.Prelude.{if◌then◌else◌}
 use mathlib.Core.Path.{◌≡◌, refl, sym}
 use mathlib.Core.Bool.{Bool, true, false, not, ◌&&◌}
 use mathlib.Core.List.{List, [], ◌∷◌, ◌++◌}
@@ -7,7 +8,7 @@ use Prim.Native.Char.{code}
 use lib.Dec.{eqb, leb, ltb}
 use lib.ListN.{take, drop}
 use borrow.Author.Tests.{eqb-true, eqb-false, ne_eqb}
-use Rattle.lexer.specs.Text.{if◌then◌else◌, among, is, within, any_of, is_blank, is_digit, is_hex_digit, is_letter, run, all, last, digit, value_from}
+use Rattle.lexer.specs.Text.{among, is, within, any_of, is_blank, is_digit, is_hex_digit, is_letter, run, all, last, digit, value_from}
 use Rattle.lexer.specs.Tokens.{largest, numeral, stray, prefixed, digits, suffix_behind, suffix_last, in_base, suffixed, number_with, number_at, string_after, in_comment, mark, mark_at, token_with, token_at, size_of}
 use Rattle.lexer.specs.declared.TokenRead.{TokenRead}
 use Rattle.lexer.proofs.Branches.{either, given, or_split}

@@ -1,11 +1,11 @@
 -- What a patch that works on bytes keeps and moves: the statements below a place and from it on are all, so their bytes are the first and
 -- the last of the old listing; a moved record is as long.
+use Rattle.std.specs.Prelude.{if◌then◌else◌}
 use mathlib.Core.Path.{◌≡◌, refl, sym, ap, ap₂, ◌∙◌}
 use mathlib.Core.Bool.{Bool, true, false}
 use mathlib.Core.List.{List, [], ◌∷◌, ◌++◌, map}
 use Prim.Native.Nat.{ℕ, suc, ◌+◌, ◌*◌}
 use lib.ListN.{length, length-append}
-use Rattle.lexer.specs.Text.{if◌then◌else◌}
 use Rattle.rules.specs.Records.{Record, plain, laden, encode, listing, Cell, cells_of, move_cells, move_record}
 use Rattle.rules.specs.Patch.{statement_from, records_below, records_on}
 use Rattle.rules.proofs.Records.{listing_append, length_plain, length_laden}

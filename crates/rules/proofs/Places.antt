@@ -1,5 +1,6 @@
 -- The places of the statements from a place on are not below it, in a well-formed listing: places rise, and spans begin at the place or
 -- behind it.
+use Rattle.std.specs.Prelude.{if◌then◌else◌}
 use mathlib.Core.Path.{◌≡◌, refl, ap}
 use mathlib.Core.Bool.{Bool, true, false, true≢false, false≢true}
 use mathlib.Core.List.{List, [], ◌∷◌, map}
@@ -9,7 +10,7 @@ use native.Mathlib.Omega.{arith}
 use lib.Dec.{eqb}
 use lib.ListN.{get_or}
 use borrow.Author.Tests.{leb-true}
-use Rattle.lexer.specs.Text.{if◌then◌else◌, maybe}
+use Rattle.lexer.specs.Text.{maybe}
 use Rattle.lexer.proofs.Branches.{either, given as branch}
 use Rattle.rules.specs.Records.{Field, start, span, value, below, Role, a_statement, a_times, an_expression, an_operand, a_line, Form, form_of, Record, plain, laden, mark_of, fields_of, Cell, a_place, a_number, a_signed, cells, cells_of, move_cells, move_record, places_in, places}
 use Rattle.rules.specs.WellFormed.{Stack, stack, allow, to_expression, to_operand, to_line, complete, counted, makes, checked, checked_all, fresh, well_formed}

@@ -1,5 +1,6 @@
 -- The records that bytes are decoded to have those bytes: a field's bytes come back from its value, and each record is decoded only from
 -- its own mark and its whole length. It is what lets the patch copy bytes.
+use Rattle.std.specs.Prelude.{if◌then◌else◌}
 use mathlib.Core.Path.{◌≡◌, refl, sym, ap, ap₂, ◌∙◌}
 use mathlib.Core.Bool.{Bool, true, false, true≢false}
 use mathlib.Core.List.{List, [], ◌∷◌, ◌++◌, append_assoc}
@@ -11,7 +12,7 @@ use lib.Dec.{leb}
 use lib.ListN.{length, take, drop, take-append-drop, length-drop}
 use lib.Seq.{drop-drop, take-add, length-take-le}
 use borrow.Author.Tests.{leb-true}
-use Rattle.lexer.specs.Text.{if◌then◌else◌, maybe, same}
+use Rattle.lexer.specs.Text.{maybe, same}
 use Rattle.rules.specs.Records.{Form, form_of, Record, plain, laden, mark_of, cells, field, fields, encode, listing}
 use Rattle.rules.specs.Decode.{Sized, value, nth, nths_from, having, data_at, formed, record_of, also, records_from, decode}
 use Rattle.rules.proofs.Forms.{same_true as letters_same}

@@ -1,9 +1,9 @@
 -- The rows of tokens: those of tokens behind a line end are the rows of both, and moved tokens stand in moved rows.
+use Rattle.std.specs.Prelude.{if◌then◌else◌}
 use mathlib.Core.Path.{◌≡◌, refl}
 use mathlib.Core.Bool.{Bool, true, false}
 use mathlib.Core.List.{List, [], ◌∷◌, ◌++◌, map}
 use Prim.Native.Nat.{ℕ}
-use Rattle.lexer.specs.Text.{if◌then◌else◌}
 use Rattle.lexer.proofs.Branches.{either}
 use Rattle.rules.specs.Lexemes.{Lexeme}
 use Rattle.rules.specs.Reader.{is_line_end}

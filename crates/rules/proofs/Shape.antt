@@ -1,5 +1,6 @@
 -- The listing that is read is well-formed: its records, one by one, take the stack of the listing's check on, and the tokens' places rise, so
 -- that every span is in range.
+use Rattle.std.specs.Prelude.{if◌then◌else◌}
 use mathlib.Core.Path.{◌≡◌, refl, sym, ap, ◌∙◌}
 use mathlib.Core.Bool.{Bool, true, false, ◌||◌, true≢false}
 use mathlib.Core.List.{List, [], ◌∷◌, ◌++◌}
@@ -12,7 +13,7 @@ use native.Mathlib.Nat.{le_refl, le_trans}
 use lib.Dec.{eqb, ltb}
 use lib.ListN.{length, get_or, take, drop, length-append, length-take, take-append-drop}
 use borrow.Author.Tests.{le-leb, lt-ltb, eq-eqb}
-use Rattle.lexer.specs.Text.{if◌then◌else◌, maybe, is, bytes, same}
+use Rattle.lexer.specs.Text.{maybe, is, bytes, same}
 use Rattle.rules.specs.Lexemes.{Kind, word, number, quoted, mark, newline, blank, comment, invalid, end, bad, Lexeme, name_in, operation_in}
 use Rattle.names.specs.Names.{registers, segments, sizes, directives, named, operation_named, place_from}
 use Rattle.rules.specs.Records.{Field, start, span, value, below, form_of, Record, plain, laden, VC, VL, OD, OX, field}

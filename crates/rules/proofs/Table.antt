@@ -1,4 +1,5 @@
 -- What the laws ask of a table of operations, and that the table of the names has it: one test, computed over its rows.
+use Rattle.std.specs.Prelude.{if◌then◌else◌}
 use mathlib.Core.Path.{◌≡◌, refl, ap}
 use mathlib.Core.Bool.{Bool, true, false, ◌&&◌, false≢true, true≢false}
 use mathlib.Core.List.{List, [], ◌∷◌, map}
@@ -8,7 +9,7 @@ use native.Mathlib.Omega.{arith}
 use lib.Dec.{eqb, leb, ltb}
 use lib.ListN.{length, length-map, drop, get_or}
 use borrow.Author.Tests.{leb-true, ltb-true}
-use Rattle.lexer.specs.Text.{if◌then◌else◌, lower, same, open_text}
+use Rattle.lexer.specs.Text.{lower, same, open_text}
 use Rattle.lexer.proofs.Branches.{and_split}
 use Rattle.names.specs.Names.{rows_in, spelling, operation_from, operation_named}
 use Rattle.names.specs.Table.{spellings, row, rows_of, operations}

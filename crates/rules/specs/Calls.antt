@@ -1,7 +1,7 @@
 -- Whole calls: what each entry point answers, and what each lent buffer holds afterwards. RULES 9, 11.2.
-use Rattle.std.specs.Prelude.{Bool, true, false, List, [], ◌∷◌, ◌++◌, ℕ, suc, ◌+◌, ◌*◌, ◌≤◌, ltb, length, drop}
+use Rattle.std.specs.Prelude.{Bool, true, false, List, [], ◌∷◌, ◌++◌, ℕ, suc, ◌+◌, ◌*◌, ◌≤◌, ltb, length, drop, if◌then◌else◌}
 use Rattle.std.proofs.Math.Option.{Option, none, some}
-use Rattle.lexer.specs.Text.{if◌then◌else◌, maybe}
+use Rattle.lexer.specs.Text.{maybe}
 use Rattle.lexer.specs.Tokens.{token_at, fault_number}
 use Rattle.lexer.specs.declared.Token.{Token}
 use Rattle.lexer.specs.declared.TokenRead.{TokenRead}

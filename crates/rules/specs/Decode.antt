@@ -1,7 +1,7 @@
 -- A listing's bytes as records: what `encode` writes, read back. RULES 8.1, 8.5.
-use Rattle.std.specs.Prelude.{List, [], ◌∷◌, ℕ, zero, suc, pred, ◌+◌, ◌*◌, leb, length, take, drop}
+use Rattle.std.specs.Prelude.{List, [], ◌∷◌, ℕ, zero, suc, pred, ◌+◌, ◌*◌, leb, length, take, drop, if◌then◌else◌}
 use Rattle.std.proofs.Math.Option.{Option, none, some}
-use Rattle.lexer.specs.Text.{if◌then◌else◌, maybe}
+use Rattle.lexer.specs.Text.{maybe}
 use Rattle.rules.specs.Records.{Form, form_of, Record, plain, laden, cells}
 
 -- A record, and the number of its bytes.

@@ -1,7 +1,6 @@
 -- `evaluate`: the exact sum, difference or product, or the quotient truncated toward zero. RULES 5.5.
-use Rattle.std.specs.Prelude.{ℕ, eqb, ltb, ℤ, nat_abs, ◌+ℤ◌, ◌-ℤ◌, ◌*ℤ◌}
+use Rattle.std.specs.Prelude.{ℕ, eqb, ltb, ℤ, nat_abs, ◌+ℤ◌, ◌-ℤ◌, ◌*ℤ◌, if◌then◌else◌}
 use Rattle.std.specs.Int.Signed.{mag, quot_z}
-use Rattle.lexer.specs.Text.{if◌then◌else◌}
 use Rattle.rules.specs.Reader.{nowhere}
 use Rattle.rules.specs.Calls.{Result, gives, refuses, unless}
 

@@ -1,7 +1,7 @@
 -- Expressions. RULES 5: children are written before parents, and parentheses leave no record.
-use Rattle.std.specs.Prelude.{Bool, true, false, List, [], ◌∷◌, ℕ, zero, suc, ltb}
+use Rattle.std.specs.Prelude.{Bool, true, false, List, [], ◌∷◌, ℕ, zero, suc, ltb, if◌then◌else◌}
 use Rattle.std.proofs.Math.Option.{Option, none, some}
-use Rattle.lexer.specs.Text.{if◌then◌else◌, maybe, is}
+use Rattle.lexer.specs.Text.{maybe, is}
 use Rattle.rules.specs.Lexemes.{Kind, word, number, quoted, mark, newline, blank, comment, invalid, end, bad, Lexeme}
 use Rattle.rules.specs.Records.{VC, VL, VI, VS, PF, IN}
 use Rattle.rules.specs.Reader.{Reader, Line, nowhere, ◌>>=◌, ◌>>◌, return, write, refuse, next, ahead, kind, passed, left, refuse_here, is_mark, expect, open_reader}

@@ -6,10 +6,9 @@
 --   atom     =  a number, a closed string of one character, a name, `$`, or `$$`
 --
 -- `Derives` is this grammar, with how deep it goes and the tree that it gives; `OneReading`, at the end, is the claim.
-use Rattle.std.specs.Prelude.{◌≡◌, Bool, true, false, List, [], ◌∷◌, ◌++◌, ℕ, suc}
+use Rattle.std.specs.Prelude.{◌≡◌, Bool, true, false, List, [], ◌∷◌, ◌++◌, ℕ, suc, if◌then◌else◌}
 use Rattle.std.proofs.Math.Option.{none}
 use Prim.Native.Char.{Char, code}
-use Rattle.lexer.specs.Text.{if◌then◌else◌}
 use Rattle.rules.specs.Lexemes.{word, number, quoted, mark, Lexeme, tokens_from}
 use Rattle.rules.specs.Records.{Record, VC, VL, VI, VS, PF, IN}
 use Rattle.rules.specs.Reader.{done, Line, refused_as, is_mark}

@@ -1,9 +1,9 @@
 -- The tokens of a source that the reader looks at, each in its place and with its text. RULES 2.1, 4.1.
-use Rattle.std.specs.Prelude.{Bool, true, false, List, [], ◌∷◌, ℕ, zero, suc, pred, ◌+◌, ◌-◌, ℤ, pos, negsuc, take, drop}
+use Rattle.std.specs.Prelude.{Bool, true, false, List, [], ◌∷◌, ℕ, zero, suc, pred, ◌+◌, ◌-◌, ℤ, pos, negsuc, take, drop, if◌then◌else◌}
 use Rattle.std.proofs.Math.Option.{Option, none, some}
 use Prim.Native.Char.{code}
 use Prim.Native.String.{String}
-use Rattle.lexer.specs.Text.{if◌then◌else◌, maybe, open_text}
+use Rattle.lexer.specs.Text.{maybe, open_text}
 use Rattle.lexer.specs.Tokens.{token_at, size_of, open_tokens}
 use Rattle.lexer.specs.declared.LiteralKind.{LiteralKind}
 use Rattle.lexer.specs.declared.LiteralKind.TheVariants.{Number, Text}

@@ -1,7 +1,7 @@
 -- Operands. RULES 6.
-use Rattle.std.specs.Prelude.{Bool, true, false, ◌||◌, ℕ, zero, suc, ◌+◌, eqb}
+use Rattle.std.specs.Prelude.{Bool, true, false, ◌||◌, ℕ, zero, suc, ◌+◌, eqb, if◌then◌else◌}
 use Rattle.std.proofs.Math.Option.{Option, none, some}
-use Rattle.lexer.specs.Text.{if◌then◌else◌, maybe}
+use Rattle.lexer.specs.Text.{maybe}
 use Rattle.rules.specs.Lexemes.{Kind, word, number, quoted, mark, newline, blank, comment, invalid, end, bad, text_of, name_in}
 use Rattle.names.specs.Names.{registers, segments, sizes}
 use Rattle.rules.specs.Records.{OR, OS, OI, OF, OD, OX}

@@ -1,7 +1,7 @@
 -- The patch. RULES 10.
-use Rattle.std.specs.Prelude.{Bool, true, false, not, ◌&&◌, ◌||◌, List, [], ◌∷◌, ◌++◌, map, ℕ, pred, ◌+◌, ◌-◌, eqb, leb, ltb, length, take, drop, get_or}
+use Rattle.std.specs.Prelude.{Bool, true, false, not, ◌&&◌, ◌||◌, List, [], ◌∷◌, ◌++◌, map, ℕ, pred, ◌+◌, ◌-◌, eqb, leb, ltb, length, take, drop, get_or, if◌then◌else◌}
 use Rattle.std.proofs.Math.Option.{Option, none, some}
-use Rattle.lexer.specs.Text.{if◌then◌else◌, maybe, is, among, run}
+use Rattle.lexer.specs.Text.{maybe, is, among, run}
 use Rattle.lexer.specs.Tokens.{in_comment}
 use Rattle.rules.specs.Lexemes.{Lexeme, tokens_from}
 use Rattle.rules.specs.Records.{Role, a_statement, a_times, an_expression, an_operand, a_line, form_of, Record, mark_of, fields_of, move_record, listing}

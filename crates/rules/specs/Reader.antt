@@ -1,9 +1,9 @@
 -- Readers: what reads from a state, writes records and gives a value, or refuses. A line is read token by token, with one token ahead.
 -- RULES 4, 11.
-use Rattle.std.specs.Prelude.{Bool, true, false, List, [], ◌∷◌, ◌++◌, ℕ, length}
+use Rattle.std.specs.Prelude.{Bool, true, false, List, [], ◌∷◌, ◌++◌, ℕ, length, if◌then◌else◌}
 use Rattle.std.proofs.Math.Option.{Option, none, some}
 use Prim.Native.Char.{Char}
-use Rattle.lexer.specs.Text.{if◌then◌else◌, maybe, is}
+use Rattle.lexer.specs.Text.{maybe, is}
 use Rattle.rules.specs.Lexemes.{Kind, word, number, quoted, mark, newline, blank, comment, invalid, end, bad, Lexeme, open_lexemes}
 use Rattle.rules.specs.Records.{Record}
 use Rattle.refusals.specs.declared.Refusal.{Refusal}

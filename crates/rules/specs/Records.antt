@@ -1,8 +1,8 @@
 -- The records of a listing, and their bytes. RULES 8.1, 8.2; children precede parents, and `f t` is the span.
-use Rattle.std.specs.Prelude.{Bool, true, false, List, [], ◌∷◌, ◌++◌, ℕ, ◌/◌, ◌%◌, length}
+use Rattle.std.specs.Prelude.{Bool, true, false, List, [], ◌∷◌, ◌++◌, ℕ, ◌/◌, ◌%◌, length, if◌then◌else◌}
 use Rattle.std.proofs.Math.Option.{Option, none, some}
 use Prim.Native.String.{String}
-use Rattle.lexer.specs.Text.{if◌then◌else◌, maybe, bytes, same, open_text}
+use Rattle.lexer.specs.Text.{maybe, bytes, same, open_text}
 
 -- What a record holds: the place of a statement's first token, a span, a number below a bound, or a number whose 32 bits are read as signed
 -- (Claims: ValuesFit; `printing`: `signed`).

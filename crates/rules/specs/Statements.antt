@@ -1,6 +1,6 @@
 -- Statements, and the reading of a source. RULES 7.
-use Rattle.std.specs.Prelude.{Bool, true, false, ◌||◌, List, [], ◌∷◌, ◌++◌, ℕ, zero, suc, eqb, leb, ltb, length, take}
-use Rattle.lexer.specs.Text.{if◌then◌else◌, maybe, is}
+use Rattle.std.specs.Prelude.{Bool, true, false, ◌||◌, List, [], ◌∷◌, ◌++◌, ℕ, zero, suc, eqb, leb, ltb, length, take, if◌then◌else◌}
+use Rattle.lexer.specs.Text.{maybe, is}
 use Rattle.rules.specs.Lexemes.{Kind, word, number, quoted, mark, newline, blank, comment, invalid, end, bad, Lexeme, tokens_from, name_in, operation_in}
 use Rattle.names.specs.Names.{directives}
 use Rattle.names.specs.Table.{operations}

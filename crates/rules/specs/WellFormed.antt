@@ -1,8 +1,8 @@
 -- Well-formed listings (41), RULES 8.5: each field is within its bounds, each record finds its children before it, and each statement begins behind
 -- the one before and is closed by a line record.
-use Rattle.std.specs.Prelude.{Bool, true, false, not, ◌&&◌, List, [], ◌∷◌, ℕ, suc, ◌+◌, ◌-◌, eqb, leb, ltb, length, get_or}
+use Rattle.std.specs.Prelude.{Bool, true, false, not, ◌&&◌, List, [], ◌∷◌, ℕ, suc, ◌+◌, ◌-◌, eqb, leb, ltb, length, get_or, if◌then◌else◌}
 use Rattle.std.proofs.Math.Option.{Option, none, some}
-use Rattle.lexer.specs.Text.{if◌then◌else◌, maybe}
+use Rattle.lexer.specs.Text.{maybe}
 use Rattle.rules.specs.Records.{Field, start, span, value, below, Count, fixed, told, Role, a_statement, a_times, an_expression, an_operand, a_line, Form, form_of, Record, plain, laden, mark_of, fields_of}
 
 -- What stands of a statement: expressions, operands above them, expressions above those; and whether a line record has closed it.

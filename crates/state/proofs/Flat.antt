@@ -1,5 +1,6 @@
 -- The kind of a token from its flat form: what the code asks of the byte is what the rules ask of the kind.
 -- Assumes nothing.
+use Rattle.std.specs.Prelude.{if◌then◌else◌}
 use Prim.Native.Nat.{ℕ, zero, suc, ◌-◌, ◌≤◌}
 use Prim.Native.Char.{Char, code}
 use mathlib.Core.Path.{◌≡◌, refl, sym, ap, ◌∙◌}
@@ -12,7 +13,7 @@ use lib.ListN.{length, take, drop, length-take}
 use lib.Seq.{take-take, take-nil}
 use borrow.Author.Tests.{eqb-true, eq-eqb, ne_eqb}
 use Rattle.lexer.proofs.Branches.{or_split}
-use Rattle.lexer.specs.Text.{if◌then◌else◌, is}
+use Rattle.lexer.specs.Text.{is}
 use Rattle.lexer.specs.Tokens.{size_of}
 use Rattle.lexer.specs.Scanned.{kind_of as byte_of, value_of}
 use Rattle.lexer.specs.declared.LiteralKind.TheVariants.{Number, Text}

@@ -1,5 +1,6 @@
 -- From a token to the next: within a line, and from a line's end to the next line.
 -- Assumes nothing.
+use Rattle.std.specs.Prelude.{if◌then◌else◌}
 use Prim.Native.Nat.{ℕ, zero, suc, pred, ◌≤◌}
 use mathlib.Core.Path.{◌≡◌, refl, sym, ap, ◌∙◌}
 use mathlib.Core.List.{List, [], ◌∷◌}
@@ -10,7 +11,7 @@ use native.Mathlib.Nat.{le_refl, not-suc-le-zero}
 use lib.Dec.{eqb}
 use Prim.Native.Char.{Char, code}
 use lib.ListN.{length, drop}
-use Rattle.lexer.specs.Text.{maybe, if◌then◌else◌}
+use Rattle.lexer.specs.Text.{maybe}
 use Rattle.lexer.specs.Tokens.{token_at, size_of}
 use Rattle.lexer.specs.declared.TokenRead.{TokenRead}
 use Rattle.lexer.proofs.Branches.{either}

@@ -1,5 +1,6 @@
 -- The tokens of a source from a place on, one at a time, and the lines that they stand in.
 -- Assumes nothing.
+use Rattle.std.specs.Prelude.{if◌then◌else◌}
 use Prim.Native.Nat.{ℕ, suc, pred, ◌+◌, ◌-◌, ◌≤◌, ◌<◌}
 use mathlib.Core.Path.{◌≡◌, refl, ap, ◌∙◌}
 use mathlib.Core.List.{List, [], ◌∷◌}
@@ -10,7 +11,6 @@ use lib.Dec.{eqb, ltb}
 use lib.ListN.{length, get_or, drop, take, drop_of_length-le, length-drop}
 use lib.Seq.{drop-cons, drop-drop}
 use borrow.Author.Tests.{ltb-true, ltb-false, eqb-true, eqb-false}
-use Rattle.lexer.specs.Text.{if◌then◌else◌}
 use Rattle.lexer.specs.Tokens.{token_with, token_at, size_of}
 use Rattle.lexer.specs.Scanned.{kind_of as byte_of, value_of}
 use Rattle.lexer.specs.declared.TokenRead.{TokenRead}

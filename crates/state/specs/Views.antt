@@ -1,7 +1,6 @@
 -- The code's state and its answers, seen as those of the rules.
-use Rattle.std.specs.Prelude.{ℕ, ◌-◌, ◌≡◌, true, false, List, [], ◌∷◌, eqb, length, take, drop}
+use Rattle.std.specs.Prelude.{ℕ, ◌-◌, ◌≡◌, true, false, List, [], ◌∷◌, eqb, length, take, drop, if◌then◌else◌}
 use Prim.Native.Char.{Char, code}
-use Rattle.lexer.specs.Text.{if◌then◌else◌}
 use Rattle.rules.specs.Lexemes.{Kind, word, number, quoted, mark, newline, invalid, bad, Lexeme, tokens_from}
 use Rattle.rules.specs.Records.{Record, listing}
 use Rattle.rules.specs.Reader.{Cause, at, numbers_of, done, refused, Reader, Line, next, expect}

@@ -1,12 +1,13 @@
 -- The forms of a statement: what its first word says, and how each is read behind that word.
 -- Assumes nothing.
+use Rattle.std.specs.Prelude.{if◌then◌else◌}
 use Prim.Native.Nat.{ℕ, suc}
 use mathlib.Core.Path.{◌≡◌, refl, sym, ap, subst, ◌∙◌}
 use mathlib.Core.List.{List, [], map}
 use mathlib.Core.Bool.{Bool, true, false, ◌||◌}
 use mathlib.Core.Option.{Option, none, some}
 use lib.Dec.{eqb, ltb}
-use Rattle.lexer.specs.Text.{if◌then◌else◌, maybe, bytes, lower, same}
+use Rattle.lexer.specs.Text.{maybe, bytes, lower, same}
 use Rattle.names.specs.Names.{directives, place_from, named, operation_named, found_of, directive_from, directive_of}
 use Rattle.names.specs.declared.Found.{Found}
 use Rattle.names.specs.declared.Found.TheVariants as found

@@ -1,5 +1,6 @@
 -- The lines that the code's state stands in: every line has an end, each step leaves fewer tokens, and how the code comes from line to line.
 -- Assumes nothing.
+use Rattle.std.specs.Prelude.{if◌then◌else◌}
 use Prim.Native.Nat.{ℕ, suc, ◌+◌, ◌≤◌, ◌<◌}
 use mathlib.Core.Path.{◌≡◌, refl, sym, ap, subst, ◌∙◌}
 use mathlib.Core.List.{List, [], ◌∷◌}
@@ -9,7 +10,7 @@ use native.Mathlib.Omega.{arith}
 use borrow.Author.Tests.{eqb-true}
 use lib.Dec.{eqb}
 use lib.ListN.{length, drop}
-use Rattle.lexer.specs.Text.{if◌then◌else◌, maybe}
+use Rattle.lexer.specs.Text.{maybe}
 use Rattle.lexer.specs.Tokens.{token_at}
 use Rattle.rules.specs.Lexemes.{Lexeme}
 use Rattle.rules.specs.Reader.{Cause, at as at_span, Answer, done, refused, Reader, Line, thence, refused_as, arrive, step, next, kind, refuse_here, is_line_end, numbers_of, ◌>>=◌}

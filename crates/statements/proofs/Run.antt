@@ -1,5 +1,6 @@
 -- A statement with its place, and statements until none is left: each one read leaves fewer tokens.
 -- Assumes nothing.
+use Rattle.std.specs.Prelude.{if◌then◌else◌}
 use Prim.Native.Nat.{ℕ, zero, suc, ◌≤◌, ◌<◌}
 use mathlib.Core.Path.{◌≡◌, refl, ap, ◌∙◌}
 use mathlib.Core.List.{List, []}
@@ -8,7 +9,6 @@ use native.Mathlib.Omega.{arith}
 use native.Mathlib.Nat.{le_refl}
 use lib.Dec.{eqb}
 use lib.ListN.{length}
-use Rattle.lexer.specs.Text.{if◌then◌else◌}
 use Rattle.rules.specs.Records.{ST, encode}
 use Rattle.rules.specs.Reader.{Answer, Reader, thence, ◌>>◌, return, write, ahead, ◌>>=◌}
 use Rattle.rules.specs.Statements.{fitting, State, over, in_line, skip_lines, line, times, begun, statement, statements}

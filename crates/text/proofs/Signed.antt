@@ -1,4 +1,5 @@
 -- A value's text is that of the signed number of its bits.
+use Rattle.std.specs.Prelude.{if◌then◌else◌}
 use mathlib.Core.Path.{◌≡◌, refl, ap}
 use mathlib.Core.Bool.{Bool, true, false}
 use mathlib.Core.List.{◌++◌}
@@ -7,7 +8,7 @@ use native.Mathlib.Omega.{arith}
 use lib.Dec.{ltb}
 use borrow.Author.Tests.{lt-ltb}
 use lib.IntN.{pos, ◌-ℤ◌}
-use Rattle.lexer.specs.Text.{if◌then◌else◌, bytes}
+use Rattle.lexer.specs.Text.{bytes}
 use Rattle.text.specs.Text.{decimal, signed}
 use Rattle.text.specs.Claims.{signed_of, decimal_of, PrintsSigned}
 

@@ -1,6 +1,6 @@
 -- What is claimed of the text. The laws are proved in proofs/: Digits, Signed.
-use Rattle.std.specs.Prelude.{◌≡◌, List, ◌++◌, ℕ, suc, ◌≤◌, ◌<◌, ltb, ℤ, pos, negsuc, ◌-ℤ◌}
-use Rattle.lexer.specs.Text.{if◌then◌else◌, bytes}
+use Rattle.std.specs.Prelude.{◌≡◌, List, ◌++◌, ℕ, suc, ◌≤◌, ◌<◌, ltb, ℤ, pos, negsuc, ◌-ℤ◌, if◌then◌else◌}
+use Rattle.lexer.specs.Text.{bytes}
 use Rattle.text.specs.Text.{decimal_in, decimal, signed}
 
 -- The 20 digits of `decimal` never run out: a number of 64 bits has the same text with any larger count.

@@ -1,8 +1,8 @@
 -- Numbers as text, and text written to a lent buffer.
-use Rattle.std.specs.Prelude.{◌≡◌, List, [], ◌∷◌, ◌++◌, ℕ, zero, suc, ◌+◌, ◌-◌, ◌/◌, ◌%◌, min, max, ltb, length}
+use Rattle.std.specs.Prelude.{◌≡◌, List, [], ◌∷◌, ◌++◌, ℕ, zero, suc, ◌+◌, ◌-◌, ◌/◌, ◌%◌, min, max, ltb, length, if◌then◌else◌}
 use Prim.Native.Char.{code}
 use Rattle.std.proofs.lemmas.List.Edits.{sets}
-use Rattle.lexer.specs.Text.{if◌then◌else◌, bytes}
+use Rattle.lexer.specs.Text.{bytes}
 
 -- The decimal digits of a number that has at most k of them.
 unfoldable pub decimal_in : ℕ → ℕ → List ℕ
