@@ -41,47 +41,46 @@ fn answer(text: &str) -> String {
 fn main() {
     let folder = env::args().nth(1).expect("the folder of the crate");
     let folder = Path::new(&folder);
-    let row = |source: Vec<u8>, said: &str| format!("row {} ({})", list(source), answer(said));
+    let row = |source: Vec<u8>, said: &str| format!("{} reads {}", list(source), answer(said));
     let reads = recorded::entries(recorded::READS).chain(recorded::entries(recorded::RESPELLED_READS));
     let mut rows: Vec<String> = reads.map(|(source, said)| row(source, said)).collect();
     let samples = samples::samples();
     rows.extend(samples.into_iter().filter(|(source, _)| source.len() < LONG).map(|(source, said)| row(source, &said)));
     fs::create_dir_all(folder.join("specs")).unwrap();
     fs::create_dir_all(folder.join("src")).unwrap();
-    fs::write(folder.join("src/lib.rt"), "// The recorded reads, computed by the definitions.\n").unwrap();
+    fs::write(folder.join("src/lib.rt"), "#![tactic(auto)]\n\n// The recorded reads, computed by the definitions.\n").unwrap();
     let mut root = String::new();
     for (k, rows) in rows.chunks(ROWS).enumerate() {
         writeln!(root, "pub mod Rows{k}").unwrap();
         let claims = rows.iter().fold("tt".to_string(), |rest, _| format!("(refl, {rest})"));
         let text = format!(
-            "use mathlib.Core.Path.{{_≡_, refl}}
-use mathlib.Core.List.{{List, [], _∷_}}
-use Prim.Native.Nat.{{ℕ}}
-use Rattle·names.specs.Table.{{operations, spellings, row as tableRow, rowsOf}}
-use Rattle·rules.specs.Records.{{Record, ST, VC, VL, VI, VS, PF, IN, OR, OS, OI, OF, OD, OX, LL, LI, LD, LC, LT}}
-use Rattle·rules.specs.Reader.{{at, nowhere, encoding}}
-use Rattle·rules.specs.Statements.{{present}}
-use Rattle·rules.specs.Calls.{{Result, gives, refuses, fullRead, openCalls}}
+            "use Rattle.std.specs.Prelude.{{◌≡◌, refl, List, [], ◌∷◌, ℕ}}
+use Rattle.names.specs.Table.{{operations, spellings, row, rows_of}}
+use Rattle.rules.specs.Statements.{{present}}
+use Rattle.rules.specs.Records.{{Record, ST, VC, VL, VI, VS, PF, IN, OR, OS, OI, OF, OD, OX, LL, LI, LD, LC, LT}}
+use Rattle.rules.specs.Reader.{{at, nowhere, encoding}}
+use Rattle.rules.specs.Calls.{{Result, gives, refuses, full_read, open_calls}}
 
-pub record Row : Type 0 where
+pub record Sample : Type 0 where
   pub source : List ℕ
   pub answer : Result (List Record)
 
-abbrev pub row : List ℕ → Result (List Record) → Row
-row s a = record {{ source = s; answer = a }}
+infix 80 ◌reads◌
+abbrev pub ◌reads◌ : List ℕ → Result (List Record) → Sample
+s reads a = record {{ source = s; answer = a }}
 
-unfoldable pub rows : List Row
-rows =
+unfoldable pub samples : List Sample
+samples =
     {}
     ∷ []
 
-unfoldable pub Agree : List Row → Type 0
+unfoldable pub Agree : List Sample → Type 0
 Agree [] = Unit {{0}}
-Agree (r ∷ rs) = (fullRead present (r .source) 1000000 ≡ r .answer) × Agree rs
+Agree (k ∷ ks) = (full_read present k.source 1000000 ≡ k.answer) × Agree ks
 
-pub agree : Agree rows
-unfolding openCalls spellings tableRow rowsOf operations rows Agree
-agree = {claims}
+pub known : Agree samples
+unfolding open_calls spellings row rows_of operations samples Agree
+known = {claims}
 ",
             rows.join("\n    ∷ ")
         );
