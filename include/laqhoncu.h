@@ -12,9 +12,7 @@
    State. Nothing is kept after a call, nothing is allocated, and there is no global state: calls may run at once on several threads, as
    long as none of them writes a buffer that another one is using. All working memory is on the stack: see LAQHONCU_STACK_.. below.
 
-   The answer of a call is a struct by value. Its contract, as it is proved, stands in the repository, in crates/laqhoncu_c/src/lib.rt.
-
-   Processor. The library is compiled for x86-64-v2, which has SSE4.2 and POPCNT, and does not ask whether it runs on one. */
+   The answer of a call is a struct by value. Its contract, as it is proved, stands in the repository, in crates/laqhoncu_c/src/lib.rt. */
 #ifndef LAQHONCU_H
 #define LAQHONCU_H
 #include <stddef.h>

@@ -20,7 +20,8 @@ seven s = joined 0 7 (get_or s 0 0 ∷ get_or s 1 0 ∷ get_or s 2 0 ∷ get_or 
 abbrev pub eight : List ℕ → ℕ → ℕ
 eight s i =
     joined 0 8
-    (get_or s i 0 ∷ get_or s (i + 1) 0 ∷ get_or s (i + 2) 0 ∷ get_or s (i + 3) 0 ∷ get_or s (i + 4) 0 ∷ get_or s (i + 5) 0 ∷ get_or s (i + 6) 0 ∷ get_or s (i + 7) 0 ∷ [])
+    (get_or s i 0 ∷ get_or s (i + 1) 0 ∷ get_or s (i + 2) 0 ∷ get_or s (i + 3) 0
+    ∷ get_or s (i + 4) 0 ∷ get_or s (i + 5) 0 ∷ get_or s (i + 6) 0 ∷ get_or s (i + 7) 0 ∷ [])
 
 unfoldable pub key : List ℕ → ℕ
 key s = joined 0 7 s

@@ -106,6 +106,6 @@ unfoldable pub statement_buffer : Profile → List ℕ → ℕ → List ℕ → 
 statement_buffer profile source p buffer = leaves found_bytes (statement_call profile source p (length buffer)) buffer
 
 unfoldable pub open_calls : Unit {0}
-unfolding open_statements unless most_bytes too_long foreign ascii lent lent_at in_room overwrite leaves token_call listed full_read enough full_buffer one_found
-    one_read statement_call found_bytes statement_buffer
+unfolding open_statements unless most_bytes too_long foreign ascii lent lent_at in_room overwrite leaves token_call listed full_read enough full_buffer
+    one_found one_read statement_call found_bytes statement_buffer
 open_calls = tt

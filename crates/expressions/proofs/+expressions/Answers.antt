@@ -47,16 +47,8 @@ expression-returns-in-Done t c =
 pub infixes-loop-op-init : goal.infixes-loop-op-init
 infixes-loop-op-init t c = (length (line_of c.args.src.now c.args.p).more, le_refl _, starts _ _ _ _ _ _)
 
--- ?? no goal infixes same-length
--- infixes-same-length : (t : ℕ) → infixes-lts.Need-same-length (infixes-calls t) (infixes-at t) infixes.Post infixes-Inv-loop infixes-μ-loop
--- infixes-same-length t c = c.before.before.before.loop.invariant.2.wrote.long
-
 pub infixes-returns-in-Not : goal.infixes-returns-in-Not
 infixes-returns-in-Not t c = reads_done (lands (none_left _ _ _ _ _ _ (sym c.operator_of.ensures ∙ ap number_in c.in-Not.is) c.loop-op.invariant.2) (returns tt))
-
--- ?? no goal infixes same-length-2
--- infixes-same-length-2 : (t : ℕ) → infixes-lts.Need-same-length-2 (infixes-calls t) (infixes-at t) infixes.Post infixes-Inv-loop infixes-μ-loop
--- infixes-same-length-2 t c = c.before.before.before.before.before.before.loop.invariant.2.wrote.long
 
 pub infixes-returns-then-binds-level : goal.infixes-returns-then-binds-level
 infixes-returns-then-binds-level t c = reads_done (lands (too_loose _ _ _ _ _ (sym c.operator_of.ensures ∙ ap number_in c.in-Is.is) _ (rw (← c.infix_level-binds.ensures) (lt-ltb _ _ c.if-binds-level.true)) c.loop-op.invariant.2) (returns tt))
@@ -69,10 +61,6 @@ tight-inside t c = operator_inside _ (tight-is t c)
 
 pub infixes-next-requires : goal.infixes-next-requires
 infixes-next-requires t c = let (n, z) = tight-inside t c in (c.requires, (n, z))
-
--- ?? no goal infixes same-length-3
--- infixes-same-length-3 : (t : ℕ) → infixes-lts.Need-same-length-3 (infixes-calls t) (infixes-at t) infixes.Post infixes-Inv-loop infixes-μ-loop
--- infixes-same-length-3 t c = c.before.before.before.before.before.before.before.before.before.before.loop.invariant.2.wrote.long
 
 tight-is_2 : (t : ℕ) (c : goal.infixes-In-Stopped t) → operator_of (mark c.loop-op.q.kind) ≡ some (operator_number c.in-Is.op)
 tight-is_2 t c = sym c.operator_of.ensures ∙ ap number_in c.in-Is.is
@@ -101,10 +89,6 @@ infixes-overflow_add-binds t c = omega (arith, level_small c.in-Is.op, c.infix_l
 
 pub infixes-expression-requires : goal.infixes-expression-requires
 infixes-expression-requires t c = (omega (arith, c.decreases), c.requires)
-
--- ?? no goal infixes same-length-4
--- infixes-same-length-4 : (t : ℕ) → infixes-lts.Need-same-length-4 (infixes-calls t) (infixes-at t) infixes.Post infixes-Inv-loop infixes-μ-loop
--- infixes-same-length-4 t c = c.before.before.before.before.before.expression.auto.1.0 ∙ c.before.before.before.before.before.before.before.before.before.before.before.before.before.before.before.before.before.loop.invariant.2.wrote.long
 
 tight-is_3 : (t : ℕ) (c : goal.infixes-In-Refused t) → operator_of (mark c.loop-op.q.kind) ≡ some (operator_number c.in-Is.op)
 tight-is_3 t c = sym c.operator_of.ensures ∙ ap number_in c.in-Is.is

@@ -3,10 +3,6 @@ use mathlib.Core.Path.{sym, ◌∙◌}
 use Rattle.lexer.proofs.Scans.{literal_fits, literal_beyond}
 use Rattle.lexer.proofs.number_literal.Goals as goal
 
--- ?? no goal overflow-cast-t11
--- cast-t11 : tie.Need-overflow-cast-t11
--- cast-t11 c = let start = c.before.before.before.before.before in omega (arith, c.shared-slice-known2.given start.args.at)
-
 pub returns-in-Fits : goal.returns-in-Fits
 returns-in-Fits c = literal_fits _ _ _ _ _ c.requires.5 (sym c.from_radix.ensures ∙ c.in-Fits.is)
 

@@ -28,10 +28,6 @@ overflow_sub-a c = op_fits ◌-ℤ◌ difference_fits c.ranges.left c.ranges.rig
 pub overflow_mul-a : goal.overflow_mul-a
 overflow_mul-a c = op_fits ◌*ℤ◌ product_fits c.ranges.left c.ranges.right
 
--- ?? no goal nonzero-div-in-range
--- div-in-range : tie.Need-nonzero-div-in-range
--- div-in-range c = (divisor_positive c.before.before.before.ranges.right c.if1.false, op_fits quot_z quotient_fits c.before.before.before.ranges.left c.before.before.before.ranges.right)
-
 pub returns-in-Add : goal.returns-in-Add
 unfolding evaluate unless
 returns-in-Add c = c.in_range.ensures ∙ ap signed32 (op_is ◌+ℤ◌ sum_fits c.ranges.left c.ranges.right) ∙ sym (by-operator c.args.left c.args.right c.in-Add.is)
