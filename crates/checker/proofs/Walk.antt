@@ -28,17 +28,17 @@ having_sound : (n : ℕ) (s : List ℕ) (r : Record) → 1 ≤ n → Sound s (ha
 unfolding having
 having_sound n s r h = under (Sound s) (leb (4 * n) (length s)) _ _ (λ e. found (4 * n) refl (omega arith) (leb-true (4 * n) (length s) e)) (λ e. nothing)
 
-data-sound : (n : ℕ) (m s : List ℕ) → Sound s (data_at n m s)
+data_sound : (n : ℕ) (m s : List ℕ) → Sound s (data_at n m s)
 unfolding data_at
-data-sound n m s = under (Sound s) (leb (4 * n + 4 + nth n s) (length s)) _ _ (λ e. found (4 * n + 4 + nth n s) refl (omega arith) (leb-true (4 * n + 4 + nth n s) (length s) e)) (λ e. nothing)
+data_sound n m s = under (Sound s) (leb (4 * n + 4 + nth n s) (length s)) _ _ (λ e. found (4 * n + 4 + nth n s) refl (omega arith) (leb-true (4 * n + 4 + nth n s) (length s) e)) (λ e. nothing)
 
-record-sound : (m s : List ℕ) → Sound s (record_of m s)
+record_sound : (m s : List ℕ) → Sound s (record_of m s)
 unfolding record_of formed
-record-sound m s = go (form_of m) refl
+record_sound m s = go (form_of m) refl
   where
     go : (o : Option Form) → form_of m ≡ o → Sound s (maybe o none (formed m s))
     go none e = nothing
-    go (some w) e = either (Sound s) w.laden _ _ (data-sound (length (cells w.holds)) m s) (having_sound (length (cells w.holds)) s _ (some_field m w e))
+    go (some w) e = either (Sound s) w.laden _ _ (data_sound (length (cells w.holds)) m s) (having_sound (length (cells w.holds)) s _ (some_field m w e))
 
 -- A stack is at most one higher behind a record.
 abbrev pub height : Stack → ℕ
@@ -124,7 +124,7 @@ module _ (n : ℕ) (k : Stack) where
 
   next : (c : ℕ) (cs : List ℕ) → Passing n k (c ∷ cs) (next_pass n k (c ∷ cs))
   unfolding next_pass verdict records_from
-  next c cs = go (record_of (take 2 (c ∷ cs)) (drop 2 (c ∷ cs))) refl (record-sound _ _)
+  next c cs = go (record_of (take 2 (c ∷ cs)) (drop 2 (c ∷ cs))) refl (record_sound _ _)
     where
       go : (o : Option Sized) → record_of (take 2 (c ∷ cs)) (drop 2 (c ∷ cs)) ≡ o → Sound (drop 2 (c ∷ cs)) o → Passing n k (c ∷ cs) (passes n k o)
       go none e nothing = stops (rw e)
@@ -154,8 +154,8 @@ module _ (n : ℕ) (k : Stack) where
 
   pub alone : (s : List ℕ) → length s < 2 → next_pass n k s ≡ none
   unfolding next_pass
-  alone [] h = ap (passes n k) (sound_nil (record-sound [] []))
-  alone (c ∷ []) h = ap (passes n k) (sound_nil (record-sound (c ∷ []) []))
+  alone [] h = ap (passes n k) (sound_nil (record_sound [] []))
+  alone (c ∷ []) h = ap (passes n k) (sound_nil (record_sound (c ∷ []) []))
   alone (c ∷ d ∷ s) h = absurd (omega arith)
 
   -- the record at a place, by its letters and the bytes behind them

@@ -28,7 +28,7 @@ use refusals::{ACCEPTED, BEYOND_32_BITS, NO_REGISTER, NO_SUCH_OPERATOR, Refusal,
 
 // A token as numbers: its kind as in `lexer::Scanned`, a number's value or an invalid token's byte, and the place behind it.
 #[repr(C)]
-#[derive(Drop)]
+#[derive(Clone, Copy)]
 pub struct TokenFound {
     pub kind: u8,
     pub value: i32,
@@ -188,7 +188,7 @@ pub fn laqhoncu_directive(word: &[u8]) -> u8
 
 // A refusal as RULES 11.1 numbers it; number 0 is none. A register that is not there is 255.
 #[repr(C)]
-#[derive(Drop)]
+#[derive(Clone, Copy)]
 pub struct Numbers {
     pub number: u32,
     pub from: u32,
@@ -199,7 +199,7 @@ pub struct Numbers {
 
 // Number 0, and how many bytes were written; or the refusal, and 0.
 #[repr(C)]
-#[derive(Drop)]
+#[derive(Clone, Copy)]
 pub struct FullReading {
     pub refusal: Numbers,
     pub length: u32,
@@ -207,7 +207,7 @@ pub struct FullReading {
 
 // The same, with the place of the token ahead. `found` is 1 where a statement was read, and else 0.
 #[repr(C)]
-#[derive(Drop)]
+#[derive(Clone, Copy)]
 pub struct StatementReading {
     pub refusal: Numbers,
     pub found: u8,
@@ -217,7 +217,7 @@ pub struct StatementReading {
 
 // Number 0 and the token; or the refusal, and an end of file at 0.
 #[repr(C)]
-#[derive(Drop)]
+#[derive(Clone, Copy)]
 pub struct TokenReading {
     pub refusal: Numbers,
     pub token: TokenFound,
@@ -225,7 +225,7 @@ pub struct TokenReading {
 
 // Number 0 and the value; or the refusal, and 0.
 #[repr(C)]
-#[derive(Drop)]
+#[derive(Clone, Copy)]
 pub struct Valuation {
     pub refusal: Numbers,
     pub value: i32,
@@ -233,7 +233,7 @@ pub struct Valuation {
 
 // The lengths of the edited source and of its listing.
 #[repr(C)]
-#[derive(Drop)]
+#[derive(Clone, Copy)]
 pub struct Patching {
     pub refusal: Numbers,
     pub source: usize,

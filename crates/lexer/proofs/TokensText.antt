@@ -61,7 +61,7 @@ Begun s (Refused n f) = Unit {0}
 record Fine (s : List ℕ) (t : TokenRead) : Type 0 where
   some_byte : 1 ≤ size_of t
   clean : Clean (size_of t) s
-  in-range : InRange t
+  in_range : InRange t
   begun : Begun s t
 
 -- a test that no line feed passes
@@ -92,7 +92,7 @@ unfolding run
 one_run p c cs e = rw (e, run) (omega arith)
 
 fine : {s : List ℕ} (t : TokenRead) → 1 ≤ size_of t → Clean (size_of t) s → InRange t → Begun s t → Fine s t
-fine t i l h b = record { some_byte = i; clean = l; in-range = h; begun = b }
+fine t i l h b = record { some_byte = i; clean = l; in_range = h; begun = b }
 
 within_largest : (v : ℕ) → leb v largest ≡ true → v ≤ 2147483647
 unfolding largest
@@ -259,7 +259,7 @@ token_at_fits c d ds h =
 pub token_at_in_range : (s : List ℕ) → InRange (token_at s)
 unfolding token_with token_at
 token_at_in_range [] = refl
-token_at_in_range (c ∷ cs) = by_first (λ (s : List ℕ) (t : TokenRead). InRange t) (λ cs. tt) (λ c cs f. f.in-range) c cs
+token_at_in_range (c ∷ cs) = by_first (λ (s : List ℕ) (t : TokenRead). InRange t) (λ cs. tt) (λ c cs f. f.in_range) c cs
 
 pub token_at_begun : (c : ℕ) (cs : List ℕ) → Begun (c ∷ cs) (token_at (c ∷ cs))
 token_at_begun = by_first (λ (s : List ℕ) (t : TokenRead). Begun s t) (λ cs. tt) (λ c cs f. f.begun)

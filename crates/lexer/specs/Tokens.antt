@@ -26,8 +26,8 @@ stray c = Read (Invalid 1 c)
 -- A prefix takes all digits of its base that stand behind it; where there is none, the token is the zero alone.
 -- s is what stands behind the prefix. 31 where the number is above the largest.
 unfoldable pub prefixed : ℕ → (ℕ → Bool) → List ℕ → TokenRead
-prefixed base isDigitOf s =
-    let n : ℕ = run isDigitOf s in
+prefixed base is_digit_of s =
+    let n : ℕ = run is_digit_of s in
     let v : ℕ = value_from 0 base (take n s) in
     if eqb n 0 then numeral 1 0
     else if leb v largest then numeral (2 + n) v else Refused (2 + n) TooLarge

@@ -120,7 +120,7 @@ pub fn digit_value(c: u8) -> u64
 }
 
 // The number that digits write: one that an i32 holds, or none.
-#[derive(Drop)]
+#[derive(Clone, Copy)]
 pub enum Value {
     Fits(u32),
     Beyond,

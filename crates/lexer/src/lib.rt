@@ -14,13 +14,13 @@ use characters::{
 
 mod characters;
 
-#[derive(Drop)]
+#[derive(Clone, Copy)]
 pub enum LiteralKind {
     Number(i32),
     Text(bool),
 }
 
-#[derive(Drop)]
+#[derive(Clone, Copy)]
 pub enum PunctuationKind {
     CloseBracket,
     CloseParenthesis,
@@ -36,7 +36,7 @@ pub enum PunctuationKind {
     Star,
 }
 
-#[derive(Drop)]
+#[derive(Clone, Copy)]
 pub enum Token {
     Whitespace(usize),
     Identifier(usize),
@@ -49,14 +49,14 @@ pub enum Token {
 }
 
 // Why a number is refused: 30, a binary one with a larger digit; 31, a prefixed one above 2147483647.
-#[derive(Drop)]
+#[derive(Clone, Copy)]
 pub enum Fault {
     LargerDigit,
     TooLarge,
 }
 
 // A token, or a number that is refused, with its length.
-#[derive(Drop)]
+#[derive(Clone, Copy)]
 pub enum TokenRead {
     Read(Token),
     Refused(usize, Fault),
@@ -64,7 +64,7 @@ pub enum TokenRead {
 
 // A token as numbers. The kind is a punctuation's own character, a refusal's number, or one of the constants below. The value is
 // a number's value, the byte of an invalid token, and else 0; the end is the place behind the token.
-#[derive(Drop)]
+#[derive(Clone, Copy)]
 pub struct Scanned {
     pub kind: u8,
     pub value: u32,
@@ -311,13 +311,13 @@ fn token_of(kind: u8, value: u32, n: usize) -> Token
 }
 
 // The place at which the next token is read.
-#[derive(Drop)]
+#[derive(Clone, Copy)]
 pub struct Cursor {
     pub pos: usize,
 }
 
 // A token and the cursor behind it; or why a number is refused, and its span.
-#[derive(Drop)]
+#[derive(Clone, Copy)]
 pub enum Next {
     Token(Token, Cursor),
     Refused(Fault, usize, usize),

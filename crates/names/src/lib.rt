@@ -128,14 +128,14 @@ const OPERATIONS: [u8; 936] = *b"\
     xlatb\0\0\x06\
     xor\0\0\0\0\x2d";
 
-#[derive(Drop)]
+#[derive(Clone, Copy)]
 pub enum Found {
     Operation(u8),
     Nothing,
 }
 
 // Size: 0 byte, 1 word.
-#[derive(Drop)]
+#[derive(Clone, Copy)]
 pub enum Name {
     Register(u8),
     Segment(u8),
@@ -143,7 +143,7 @@ pub enum Name {
     Other,
 }
 
-#[derive(Drop)]
+#[derive(Clone, Copy)]
 pub enum Directive {
     Equ,
     Db,

@@ -29,9 +29,9 @@ use Rattle.state.specs.declared.Parsed.{Parsed}
 use Rattle.operands.specs.declared.Looked.{Looked}
 use Rattle.operands.specs.declared.Looked.TheVariants as looked
 use Rattle.operands.specs.declared.RegistersRead.{RegistersRead}
-use Rattle.operands.specs.declared.RegistersRead.TheVariants as registersRead
+use Rattle.operands.specs.declared.RegistersRead.TheVariants as registers_read
 use Rattle.operands.specs.declared.OperandsRead.{OperandsRead}
-use Rattle.operands.specs.declared.OperandsRead.TheVariants as operandsRead
+use Rattle.operands.specs.declared.OperandsRead.TheVariants as operands_read
 use Rattle.state.specs.Views.{kind_by, here_of, line, Comes, Reads}
 use Rattle.operands.specs.Answers.{name_at, LooksAs, Looks, FindsAs, Finds, ReadsRegistersAs, ReadsRegisters, ReadsOperandsAs, ReadsOperands}
 use Rattle.state.proofs.Chain.{Sofar, becomes, ends, denied, comes, is_ahead, then_comes, then_denied, attempt_finds, attempt_denied}
@@ -198,8 +198,8 @@ module _ {s : List ℕ} {p q : Parser} {B : Type 0} {m : Reader Line B} {b : B} 
     then_registers {r} on = record { so = go r on.so }
       where
         go : (r : RegistersRead) → ReadsRegistersAs s q (k b) r → ReadsRegistersAs s p (m >>= k) r
-        go (registersRead.Ahead q₂ e) g = then_comes k h g
-        go (registersRead.Stopped c) g = then_denied k h g
+        go (registers_read.Ahead q₂ e) g = then_comes k h g
+        go (registers_read.Stopped c) g = then_denied k h g
 
 pub attempt_looks : {s : List ℕ} {p : Parser} {m : Reader Line (Option ℕ)} (a : ℕ) {r : Looked} → Finds s p m r → Looks s p (attempt m a) r
 attempt_looks {s} {p} {m} a {r} on = record { so = go r on.so }
@@ -212,8 +212,8 @@ pub hands_operands : {s : List ℕ} {p q : Parser} {m m₁ : Reader Line Operand
 hands_operands {s} {p} {q} {m} {m₁} {i} {w} {l} {l₁} {l₂} {r} so on = record { so = go r on.so }
   where
     go : (r : OperandsRead) → ReadsOperandsAs s q m₁ w l₁ l₂ r → ReadsOperandsAs s p m i l l₂ r
-    go (operandsRead.Done q₂ w₂ o) h = ends so h
-    go (operandsRead.Refused c) h = denied so h
+    go (operands_read.Done q₂ w₂ o) h = ends so h
+    go (operands_read.Refused c) h = denied so h
 
 -- One more size word is passed: z, which the code counts from 1.
 module _ {s : List ℕ} {p q q₂ : Parser} {m : Reader Line (Unit {0})} {i w : ℕ} {l l₁ : List ℕ} {z : ℕ} (n size : ℕ) (so : Sofar line s p m i l q (operand_sized (suc n) size) w l₁)

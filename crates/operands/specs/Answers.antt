@@ -14,7 +14,7 @@ use Rattle.operands.specs.declared.Looked.TheVariants as looked
 use Rattle.operands.specs.declared.Registers.{Registers}
 use Rattle.operands.specs.declared.Registers.TheVariants.{Encoding, Absent}
 use Rattle.operands.specs.declared.RegistersRead.{RegistersRead}
-use Rattle.operands.specs.declared.RegistersRead.TheVariants as registersRead
+use Rattle.operands.specs.declared.RegistersRead.TheVariants as registers_read
 use Rattle.operands.specs.declared.Displaced.{Displaced}
 use Rattle.operands.specs.declared.Displaced.TheVariants as displaced
 use Rattle.operands.specs.declared.OperandList.{OperandList}
@@ -57,8 +57,8 @@ registers_of (Encoding e) = some e
 registers_of Absent = none
 
 abbrev pub ReadsRegistersAs : List ℕ → Parser → Reader Line (Option ℕ) → RegistersRead → Type 0
-ReadsRegistersAs s p m (registersRead.Ahead q e) = Comes line s p m q (registers_of e)
-ReadsRegistersAs s p m (registersRead.Stopped r) = Denies line s p m r
+ReadsRegistersAs s p m (registers_read.Ahead q e) = Comes line s p m q (registers_of e)
+ReadsRegistersAs s p m (registers_read.Stopped r) = Denies line s p m r
 
 pub record ReadsRegisters (s : List ℕ) (p : Parser) (m : Reader Line (Option ℕ)) (r : RegistersRead) : Type 0 where
   pub so : ReadsRegistersAs s p m r

@@ -22,41 +22,41 @@ use state::{
 };
 
 // The answer of a reader that writes nothing and gives a number.
-#[derive(Drop)]
+#[derive(Clone, Copy)]
 pub enum Looked {
     Found(Parser, u8),
     Stopped(Refusal),
 }
 
 // The registers that a bracket begins with, by the number of their encoding.
-#[derive(Drop)]
+#[derive(Clone, Copy)]
 pub enum Registers {
     Encoding(u8),
     Absent,
 }
 
-#[derive(Drop)]
+#[derive(Clone, Copy)]
 pub enum RegistersRead {
     Ahead(Parser, Registers),
     Stopped(Refusal),
 }
 
 // With 1 where there is a displacement, else 0.
-#[derive(Drop)]
+#[derive(Clone, Copy)]
 pub enum Displaced {
     Done(Parser, u32, u8),
     Refused(Refusal),
 }
 
 // How many operands, and their span.
-#[derive(Drop)]
+#[derive(Clone, Copy)]
 pub struct OperandList {
     pub count: u32,
     pub from: u32,
     pub to: u32,
 }
 
-#[derive(Drop)]
+#[derive(Clone, Copy)]
 pub enum OperandsRead {
     Done(Parser, u32, OperandList),
     Refused(Refusal),

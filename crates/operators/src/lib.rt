@@ -14,14 +14,14 @@ pub enum Operator {
     Divide,
 }
 
-#[derive(Drop)]
+#[derive(Clone, Copy)]
 pub enum PrefixLevel {
     Level(u8),
     Invalid,
 }
 
 // Beyond 32 signed bits (50); a divisor of 0 (51).
-#[derive(Drop)]
+#[derive(Clone, Copy)]
 pub enum Evaluated {
     Value(i32),
     Beyond,

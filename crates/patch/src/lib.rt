@@ -28,7 +28,7 @@ mod moves;
 mod open;
 
 // How many bytes of the edited source and of its listing were written.
-#[derive(Drop)]
+#[derive(Clone, Copy)]
 pub enum PatchAnswer {
     Written(usize, usize),
     Refused(Refusal),

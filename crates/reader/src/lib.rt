@@ -20,14 +20,14 @@ use state::{Parsed, Parser, Step};
 use statements::{StatementRead, start, statement, statements};
 
 // The token and the state behind it.
-#[derive(Drop)]
+#[derive(Clone, Copy)]
 pub enum TokenAnswer {
     Read(Token, Cursor),
     Refused(Refusal),
 }
 
 // How many bytes were written, and the place of the token ahead.
-#[derive(Drop)]
+#[derive(Clone, Copy)]
 pub enum StatementAnswer {
     Written(u32, u32),
     NoneLeft,
@@ -35,14 +35,14 @@ pub enum StatementAnswer {
 }
 
 // How many bytes were written.
-#[derive(Drop)]
+#[derive(Clone, Copy)]
 pub enum FullAnswer {
     Written(u32),
     Refused(Refusal),
 }
 
 // Whether the source is one to read: 42, 1 and 2.
-#[derive(Drop)]
+#[derive(Clone, Copy)]
 pub enum Lent {
     Accepted,
     Refused(Refusal),

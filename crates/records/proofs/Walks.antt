@@ -116,8 +116,8 @@ module _ (q p : ℕ) where
         let d : drop (at + length E) l ≡ listing w.rest = sym (drop-drop (length E) at l) ∙ ap (drop (length E)) w.bytes' ∙ drop_at (encode r) (listing w.rest) (length E) (sym n) in
         stores_room l at E (omega (arith, w.fits)) ∙ ap (λ (s : List ℕ). take at l ++ E ++ s) d ∙ append_assoc (take at l) E (listing w.rest)
 
-    record-moved : (cs : List Cell) → cells_of (letters_of mark) ≡ cs → moved_at cs l at 2 ≡ stores l at (encode (move_record shift (record_at l at)))
-    record-moved cs c =
+    record_moved : (cs : List Cell) → cells_of (letters_of mark) ≡ cs → moved_at cs l at 2 ≡ stores l at (encode (move_record shift (record_at l at)))
+    record_moved cs c =
         let w : Stands l at mark = stands o in
         let r : Record = record_at l at in
         let s : l ≡ take at l ++ (encode r ++ listing w.rest) = sym (take-append-drop at l) ∙ ap (λ (x : List ℕ). take at l ++ x) w.bytes' in
@@ -126,15 +126,15 @@ module _ (q p : ℕ) where
 
     pub moved_times : mark ≡ 0x4c54 → l ≡ stores l at (encode (move_record shift (record_at l at)))
     unfolding moved_at cells_of
-    moved_times e = record-moved (a_number ∷ a_number ∷ []) (ap (λ (m : ℕ). cells_of (letters_of m)) e)
+    moved_times e = record_moved (a_number ∷ a_number ∷ []) (ap (λ (m : ℕ). cells_of (letters_of m)) e)
 
     pub moved_statement : mark ≡ 0x5354 → move_field q p l (at + 2) ≡ stores l at (encode (move_record shift (record_at l at)))
     unfolding moved_at cells_of
-    moved_statement e = record-moved (a_place ∷ []) (ap (λ (m : ℕ). cells_of (letters_of m)) e)
+    moved_statement e = record_moved (a_place ∷ []) (ap (λ (m : ℕ). cells_of (letters_of m)) e)
 
     pub moved_line : mark ≡ 0x4c49 → move_field q p (move_field q p (move_field q p (move_field q p l (at + 2)) (at + 6)) (at + 18)) (at + 22) ≡ stores l at (encode (move_record shift (record_at l at)))
     unfolding moved_at cells_of
-    moved_line e = record-moved (a_place ∷ a_place ∷ a_number ∷ a_number ∷ a_place ∷ a_place ∷ []) (ap (λ (m : ℕ). cells_of (letters_of m)) e)
+    moved_line e = record_moved (a_place ∷ a_place ∷ a_number ∷ a_number ∷ a_place ∷ a_place ∷ []) (ap (λ (m : ℕ). cells_of (letters_of m)) e)
 
     pub others_span : (mark ≡ 0x4c54 → ⊥) → (mark ≡ 0x5354 → ⊥) → (mark ≡ 0x4c49 → ⊥) → Spanned (cells_of (letters_of mark))
     unfolding bytes
@@ -147,7 +147,7 @@ module _ (q p : ℕ) where
     unfolding moved_at
     moved_spans lt st li =
         let s : Spanned (cells_of (letters_of mark)) = others_span lt st li in
-        sym (passed_by s.rest (move_field q p (move_field q p l (at + 2)) (at + 6)) at 10 s.none') ∙ record-moved (a_place ∷ a_place ∷ s.rest) s.so
+        sym (passed_by s.rest (move_field q p (move_field q p l (at + 2)) (at + 6)) at 10 s.none') ∙ record_moved (a_place ∷ a_place ∷ s.rest) s.so
 
 -- A record that stands at a place has its two letters there.
 pub six_there : {l : List ℕ} {at : ℕ} → ((i : ℕ) → get_or l i 0 < 256) → Decodes l at → at < length l → at + 6 ≤ length l

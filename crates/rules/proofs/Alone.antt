@@ -49,12 +49,12 @@ unfolding leaves_open full_read
 open_any_room profile l room =
     lent_open l (listed room (reading profile l)) (listed (enough l) (reading profile l)) (listed_open room (reading profile l) ∙ sym (listed_open (enough l) (reading profile l)))
 
-open-outcome : (a : Answer State (Unit {0})) → IsOpen a → open_in (outcome a) ≡ true
+open_outcome : (a : Answer State (Unit {0})) → IsOpen a → open_in (outcome a) ≡ true
 unfolding open_in outcome
-open-outcome (done w x u) h = absurd h
-open-outcome (refused (at n f t)) h = h
-open-outcome (refused (nowhere n)) h = absurd h
-open-outcome (refused (encoding f t a b)) h = absurd h
+open_outcome (done w x u) h = absurd h
+open_outcome (refused (at n f t)) h = h
+open_outcome (refused (nowhere n)) h = absurd h
+open_outcome (refused (encoding f t a b)) h = absurd h
 
 module _ (profile : Profile) where
   -- What may be read, and leaves no `times` open: its reading lacks no content.
@@ -64,7 +64,7 @@ module _ (profile : Profile) where
 
   pub not_open : (l : List ℕ) → Readable l → leaves_open profile l ≡ false → (a : Answer State (Unit {0})) → Gives profile 0 l a → IsOpen a → ⊥
   unfolding reading
-  not_open l r h a g o = true≢false (sym (ap open_in (from_run profile 0 l g) ∙ open-outcome a o) ∙ reading_closed l r h)
+  not_open l r h a g o = true≢false (sym (ap open_in (from_run profile 0 l g) ∙ open_outcome a o) ∙ reading_closed l r h)
 
   pub closed : (l : List ℕ) → Readable l → leaves_open profile l ≡ false → Closed profile 0 l
   unfolding Closed

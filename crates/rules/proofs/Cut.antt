@@ -286,8 +286,8 @@ module _ (profile : Profile) where
   refused_open : {r : Cause} {q : Answer State (Unit {0})} → Continues profile (refused r) q → IsOpen q → Lack r
   refused_open Continues.fail h = h
 
-  open-refused : {r : Cause} {q : Answer State (Unit {0})} → Continues profile (refused r) q → Lack r → IsOpen q
-  open-refused Continues.fail h = h
+  open_refused : {r : Cause} {q : Answer State (Unit {0})} → Continues profile (refused r) q → Lack r → IsOpen q
+  open_refused Continues.fail h = h
 
   true_open : {w v : List Record} {t : State} {q q' : Answer State (Unit {0})} → Continues profile (done w true t) q → Continues profile (done v true t) q' → IsOpen q → IsOpen q'
   true_open {w} {v} (Continues.go {p = p} g) (Continues.go {p = p'} g') h = after_open v p' (rw (only profile g g') at (open_after w p h))
@@ -300,7 +300,7 @@ module _ (profile : Profile) where
       → c ≡ after w0 (after [] (thence (after (ST x ∷ []) Q) (λ _. return true))) → {q q' : Answer State (Unit {0})} → Continues profile a q → Continues profile c q' → IsOpen q → IsOpen q'
   unfolding closing thence after write return
   core (limit {f} {t}) w w0 z v x e i k k' h = absurd (false≢true (refused_open (rw e at k) h))
-  core (equal {p = refused r}) w w0 z v x e i k k' h = open-refused (rw i at k') (refused_open (rw e at k) h)
+  core (equal {p = refused r}) w w0 z v x e i k k' h = open_refused (rw i at k') (refused_open (rw e at k) h)
   core (equal {p = done g b t}) w w0 z true x e i k k' h = true_open (rw e at k) (rw i at k') h
   core (equal {p = done g b t}) w w0 z false x e i k k' h = absurd (false_open (rw e at k) h)
 
@@ -353,7 +353,7 @@ module _ (profile : Profile) where
         → {q q' : Answer State (Unit {0})} → Continues profile a q → Reads profile (enter b bs) q' → IsOpen q → IsOpen q'
     late_at f n p (refused r) e c g h =
         let i : coming b bs ≡ refused r = coming_fine f ∙ e in
-        open-refused (rw (statement_refused r e) at (continues profile g)) (refused_open (rw (pending_refused p r i) at c) h)
+        open_refused (rw (statement_refused r e) at (continues profile g)) (refused_open (rw (pending_refused p r i) at c) h)
     late_at f n p (done w0 u t) e {q} {q'} c g h = go (is_line_end t.line.here.kind) refl
       where
         go : (o : Bool) → is_line_end t.line.here.kind ≡ o → IsOpen q'

@@ -357,10 +357,10 @@ module _ {C : Type 0} where
   passing_shared p = then_shared (within (next_shifts same)) p
 
 -- Where no row is below, the data end the reading, or are refused.
-data-ends : (x : Lexeme) (ds : List ℕ) (l : Line) → Stays Ending Mild (some_data x ds (record { line = l; below = [] }))
+data_ends : (x : Lexeme) (ds : List ℕ) (l : Line) → Stays Ending Mild (some_data x ds (record { line = l; below = [] }))
 unfolding some_data line_end next_row step_row in_line over passed kind refuse_here refuse write after thence ◌>>=◌ ◌>>◌
-data-ends x [] l = refl
-data-ends x (b ∷ bs) l = go (is_line_end l.here.kind) refl
+data_ends x [] l = refl
+data_ends x (b ∷ bs) l = go (is_line_end l.here.kind) refl
   where
     s : State
     s = record { line = l; below = [] }
@@ -374,7 +374,7 @@ data-ends x (b ∷ bs) l = go (is_line_end l.here.kind) refl
 literals_end : (x : Lexeme) (rs : List Row) → rs ≡ [] → (q : Answer Line (List ℕ)) → Stays (λ _. Unit {0}) Mild q
     → Stays Ending Mild (thence (over rs q) (some_data x))
 unfolding over thence
-literals_end x rs e (done w ds t) h = rw e (after_stays Ending Mild w _ (data-ends x ds t))
+literals_end x rs e (done w ds t) h = rw e (after_stays Ending Mild w _ (data_ends x ds t))
 literals_end x rs e (refused r) h = h
 
 -- A record that is backed where the line ends.
@@ -399,9 +399,9 @@ module _ (F : Profile) (X : List Lexeme) (C : Type 0) (x : Lexeme) (n : ℕ) (is
   on_data : (t : Line) → Ended t.here t.more → On C (record { line = t; below = rs })
   on_data t i = record { ended = i; others = others; alone = alone }
 
-  data-backed : (xs : List Lexeme) (t : Line) (ds : List ℕ) → left_of l ≡ xs ++ left_of t → Says n xs ds → t.last ≡ end_of (x ∷ xs)
+  data_backed : (xs : List Lexeme) (t : Line) (ds : List ℕ) → left_of l ≡ xs ++ left_of t → Says n xs ds → t.last ≡ end_of (x ∷ xs)
       → is_line_end t.here.kind ≡ true → Backed F X (LD x.from t.last ds)
-  data-backed xs t ds e s i j f t' ds' k =
+  data_backed xs t ds e s i j f t' ds' k =
       let a : x.from ≡ f = cc in
       let b : t.last ≡ t' = cc in
       let c : ds ≡ ds' = cc in
@@ -424,7 +424,7 @@ module _ (F : Profile) (X : List Lexeme) (C : Type 0) (x : Lexeme) (n : ℕ) (is
   unfolding some_data refuse in_line over passed ◌>>=◌ thence
   some_parted xs t [] e s i j = stop
   some_parted xs t (b ∷ bs) e s i j = nil_parted F X C
-      (ended_parted F X C (LD x.from t.last (b ∷ bs)) (record { line = t; below = rs }) (on_data t j) (data-backed xs t (b ∷ bs) e s i))
+      (ended_parted F X C (LD x.from t.last (b ∷ bs)) (record { line = t; below = rs }) (on_data t j) (data_backed xs t (b ∷ bs) e s i))
 
   literals_parted : {p q : Answer Line (List ℕ)} → Literals n x l p q → Stays (λ _. Unit {0}) Mild q
       → Parted F X C (thence (over rs p) (some_data x)) (thence (over rs q) (some_data x))
@@ -461,9 +461,9 @@ module _ (F : Profile) (X : List Lexeme) (C : Type 0) (s : State) (h : On C s) (
   abbrev Behind : Answer Line (Unit {0}) → Type 0
   Behind p = Parted F X C (thence (over s.below p) (λ _. data_of fits s.line.here n)) (thence (over s.below p) (λ _. data_of any s.line.here n))
 
-  data-parted : Parted F X C (passing (data_of fits s.line.here n) s) (passing (data_of any s.line.here n) s)
+  data_parted : Parted F X C (passing (data_of fits s.line.here n) s) (passing (data_of any s.line.here n) s)
   unfolding passing in_line next step ◌>>◌ ◌>>=◌ over thence
-  data-parted = go s.line.more (ap (λ (u : State). u.line.more) same-state) h.ended
+  data_parted = go s.line.more (ap (λ (u : State). u.line.more) same-state) h.ended
     where
       inside : is_line_end s.line.here.kind ≡ false
       inside = name_inside directives s.line.here.kind n is_data.named
@@ -532,7 +532,7 @@ module _ (table : List ℕ) (X : List Lexeme) (C : Type 0) where
         (λ n e. whether (eqb n 0) (λ _. shared h (passing_shared (constant_shared s.line.here)))
         (λ i. whether (ltb n 3)
         (λ j. record {
-          law = data-parted (fitting table) X C s h n (record {
+          law = data_parted (fitting table) X C s h n (record {
             state = s;
             left = k;
             opens = o;
@@ -742,28 +742,28 @@ unfolding outcome open_in
 ending_closed (done w a s) h = refl
 ending_closed (refused r) h = mild_closed r h
 
-open-parted : {F : Profile} {X : List Lexeme} {C : Type 0} {p q : Answer State (Unit {0})} → C → Parted F X C p q → open_in (outcome p) ≡ open_in (outcome q)
+open_parted : {F : Profile} {X : List Lexeme} {C : Type 0} {p q : Answer State (Unit {0})} → C → Parted F X C p q → open_in (outcome p) ≡ open_in (outcome q)
 unfolding outcome open_in
-open-parted c (alike h i) = refl
-open-parted c stop = refl
-open-parted c (wide {q = q} h i) = sym (ending_closed q (i c))
+open_parted c (alike h i) = refl
+open_parted c stop = refl
+open_parted c (wide {q = q} h i) = sym (ending_closed q (i c))
 
 module _ (table : List ℕ) where
-  open-alike : (l : List ℕ) → Feedless l → leaves_open (fitting table) l ≡ leaves_open (cutting table) l
+  open_alike : (l : List ℕ) → Feedless l → leaves_open (fitting table) l ≡ leaves_open (cutting table) l
   unfolding leaves_open full_read reading read_from
-  open-alike l h = lent_open l _ _
-      (listed_open (enough l) _ ∙ open-parted (one_row 0 0 l h) (read_parted 0 l table (suc (length l))) ∙ sym (listed_open (enough l) _))
+  open_alike l h = lent_open l _ _
+      (listed_open (enough l) _ ∙ open_parted (one_row 0 0 l h) (read_parted 0 l table (suc (length l))) ∙ sym (listed_open (enough l) _))
 
   near_alike : (o : Option (List ℕ)) → ((l : List ℕ) → o ≡ some l → Feedless l)
       → maybe o false (leaves_open (fitting table)) ≡ maybe o false (leaves_open (cutting table))
   near_alike none h = refl
-  near_alike (some l) h = open-alike l (h l refl)
+  near_alike (some l) h = open_alike l (h l refl)
 
   open_line_alike : (s : List ℕ) (a : ℕ) (new : List ℕ) → Feedless new → open_line (fitting table) s a new ≡ open_line (cutting table) s a new
   unfolding open_line among
   open_line_alike s a new h = rw (
-    open-alike (line_at s a) (line_at_feedless s a),
-    open-alike new h,
+    open_alike (line_at s a) (line_at_feedless s a),
+    open_alike new h,
     near_alike (nearest (lines_from [] (above s a)))
         (λ l e. nearest_among Feedless (lines_from [] (above s a)) l (lines_feedless [] (above s a) refl) e),
   )

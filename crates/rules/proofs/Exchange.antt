@@ -65,8 +65,8 @@ module _ (profile : Profile) where
     pub found : nearest ls ≡ some M
     pub opens : (b : Answer State (Unit {0})) → Gives profile 0 M b → IsOpen b
 
-  open-zero : (p : ℕ) (s : List ℕ) → ((b : Answer State (Unit {0})) → Gives profile p s b → IsOpen b) → (b : Answer State (Unit {0})) → Gives profile 0 s b → IsOpen b
-  open-zero p s h b g = moved_open (λ n. p + n) b (h (moved (λ n. p + n) b) (gives_shift profile p s g))
+  open_zero : (p : ℕ) (s : List ℕ) → ((b : Answer State (Unit {0})) → Gives profile p s b → IsOpen b) → (b : Answer State (Unit {0})) → Gives profile 0 s b → IsOpen b
+  open_zero p s h b g = moved_open (λ n. p + n) b (h (moved (λ n. p + n) b) (gives_shift profile p s g))
 
   not_bare : (p : ℕ) (l : List ℕ) {r : Cause} → Gives profile p (l ++ line_feed) (refused r) → bare_line l ≡ false
   not_bare p l {r} g = go (bare_line l) refl
@@ -90,7 +90,7 @@ module _ (profile : Profile) where
       n = p + length (l ++ line_feed)
 
       go : (b : Bool) → blank_rows (rows_from n (whole ls)) ≡ b → Near (l ∷ ls)
-      go true e = record { M = l; found = rw (blank_nearest n ls e, not_bare p l k); opens = open-zero p l (λ b g. alone_open profile p l k g o) }
+      go true e = record { M = l; found = rw (blank_nearest n ls e, not_bare p l k); opens = open_zero p l (λ b g. alone_open profile p l k g o) }
       go false e =
           let m : Near ls = again _ (gives profile n (whole ls)) (i e _ (gives profile n (whole ls)) h) in
           record { M = m.M; found = rw m.found; opens = m.opens }

@@ -51,12 +51,12 @@ found_in p (w ∷ ws) m h = go (same m (bytes w.mark)) refl (found_in p ws m (an
     go true e i = ((and_split (p w) (every p ws) h).0, same_true m (bytes w.mark) e)
     go false e i = i
 
-in-forms : (m : List ℕ) → form_in forms m ≡ form_of m
+in_forms : (m : List ℕ) → form_in forms m ≡ form_of m
 unfolding form_of
-in-forms m = refl
+in_forms m = refl
 
 pub found : (p : Form → Bool) (m : List ℕ) (w : Form) → every p forms ≡ true → form_of m ≡ some w → (p w ≡ true) × (m ≡ bytes w.mark)
-found p m w h e = subst (Found p m) (in-forms m ∙ e) (found_in p forms m h)
+found p m w h e = subst (Found p m) (in_forms m ∙ e) (found_in p forms m h)
 
 -- A mark is two letters.
 lettered : Form → Bool

@@ -597,15 +597,15 @@ module _ (d l : ℕ) (x : Lexeme) (ys : List Lexeme) where
   operator_sound g e none h = strip (atom_sound d l x x.kind ys refl e)
   operator_sound g e (some op) h = prefix_sound op h g e (ltb op 2) refl
 
-  open-sound : ExprSound d → Ended x ys → (b : Bool) → is_mark "(" x.kind ≡ b
+  open_sound : ExprSound d → Ended x ys → (b : Bool) → is_mark "(" x.kind ≡ b
       → Post (λ w _ s. Began d x ys w s) (if◌then◌else◌ {A = Reader Line (Unit {0})} b (next >> expr d 0 >> expect ")" 14)
       (maybe (operator_of x.kind) atom_reader (λ op. (next >> ((if ltb op 2 then (expr d prefix_level) else (refuse (nowhere 22))) >> (passed >>= λ r. write (PF x.from r op)))))) (on l x ys))
-  open-sound g e true h = parens_sound (as_mark "(" x h) g e
-  open-sound g e false h = operator_sound g e (operator_of x.kind) refl
+  open_sound g e true h = parens_sound (as_mark "(" x h) g e
+  open_sound g e false h = operator_sound g e (operator_of x.kind) refl
 
   primary_sound : ExprSound d → Ended x ys → Post (λ w _ s. Began d x ys w s) (primary (expr d) (on l x ys))
   unfolding primary ahead ◌>>=◌ thence
-  primary_sound g e = strip (open-sound g e (is_mark "(" x.kind) refl)
+  primary_sound g e = strip (open_sound g e (is_mark "(" x.kind) refl)
 
 -- The loop. So far x ∷ xs is read as w, and may be the left side of the operator ahead.
 record Looped (d p : ℕ) (x : Lexeme) (xs : List Lexeme) (w : List Record) (r s : Line) : Type 0 where

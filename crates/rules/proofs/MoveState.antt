@@ -34,16 +34,16 @@ module _ (f : ℕ → ℕ) where
   step_row_shifts [] s = refl
   step_row_shifts (r ∷ rs) s = arrive_moves f move_state same r.first _ _ refl
 
-  if-carry : {A : Type 0} (g : A → A) (b : Bool) (p q p' q' : Answer State A)
+  if_carry : {A : Type 0} (g : A → A) (b : Bool) (p q p' q' : Answer State A)
       → p' ≡ carry move_state (move_record f) (move_refusal f) g p → q' ≡ carry move_state (move_record f) (move_refusal f) g q
       → (if b then p' else q') ≡ carry move_state (move_record f) (move_refusal f) g (if b then p else q)
-  if-carry g true p q p' q' e e' = e
-  if-carry g false p q p' q' e e' = e'
+  if_carry g true p q p' q' e e' = e
+  if_carry g false p q p' q' e e' = e'
 
   skip_shifts : (l : Line) (rs : List Row) → skip (move_line f l) (map move_row rs) ≡ carry move_state (move_record f) (move_refusal f) same (skip l rs)
   unfolding skip carry move_state move_row first_of move_line move_token
   skip_shifts l [] = refl
-  skip_shifts l (r ∷ rs) = if-carry same (is_line_end l.here.kind) _ _ _ _ (arrive_moves f move_state same r.first _ _ (skip_shifts _ rs)) refl
+  skip_shifts l (r ∷ rs) = if_carry same (is_line_end l.here.kind) _ _ _ _ (arrive_moves f move_state same r.first _ _ (skip_shifts _ rs)) refl
 
 pub unit_state : (l : Line) (rs : List Row) → Unit {0} → Stays (λ _. Unit {0}) Mild (next l)
 unit_state l rs h = next_mild.law l

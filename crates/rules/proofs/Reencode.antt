@@ -119,9 +119,9 @@ laden_encodes n m s z o h = go (leb (4 * n + 4 + nth n s) (length s)) refl h
         }
     go false i j = absurd (true≢false cc)
 
-record-encodes : (m s : List ℕ) (z : Sized) → Octets s → record_of m s ≡ some z → Encodes m s z
+record_encodes : (m s : List ℕ) (z : Sized) → Octets s → record_of m s ≡ some z → Encodes m s z
 unfolding record_of formed
-record-encodes m s z o h = go (form_of m) h
+record_encodes m s z o h = go (form_of m) h
   where
     by : (b : Bool) (n : ℕ) → (if b then (data_at n m s) else (having n s (plain m (nths_from 0 n s)))) ≡ some z → Encodes m s z
     by true n h = laden_encodes n m s z o h
@@ -218,7 +218,7 @@ records_bytes zero (c ∷ cs) {rs} o h = go (record_of (take 2 (c ∷ cs)) (drop
     go none e i again = absurd (true≢false cc)
     go (some z) e i again =
         let (q, j, f) = also_some z.what (records_from (pred z.size) cs) i in
-        rw f (taken_apart c cs z (record-encodes (take 2 (c ∷ cs)) (drop 2 (c ∷ cs)) z (octets_drop 2 (c ∷ cs) o) e) ∙ ap (λ (l : List ℕ). encode z.what ++ l) (again (pred z.size) q j))
+        rw f (taken_apart c cs z (record_encodes (take 2 (c ∷ cs)) (drop 2 (c ∷ cs)) z (octets_drop 2 (c ∷ cs) o) e) ∙ ap (λ (l : List ℕ). encode z.what ++ l) (again (pred z.size) q j))
 
 pub reencoded : (b : List ℕ) (rs : List Record) → Octets b → decode b ≡ some rs → listing rs ≡ b
 unfolding decode

@@ -30,8 +30,8 @@ use Rattle.state.specs.Views.{kind_by, Plain, text_of, here_of}
 
 -- What holds at each byte that stands for a kind, and at any other byte as a mark, holds of every flat token.
 module _ (P : ℕ → Kind → Type 0) (k v : ℕ) (w : List ℕ) where
-  if-is : (n : ℕ) (x y : Kind) → P n x → (eqb k n ≡ false → P k y) → P k (if eqb k n then x else y)
-  if-is n x y p q = go (eqb k n) refl
+  if_is : (n : ℕ) (x y : Kind) → P n x → (eqb k n ≡ false → P k y) → P k (if eqb k n then x else y)
+  if_is n x y p q = go (eqb k n) refl
     where
       go : (b : Bool) → eqb k n ≡ b → P k (if b then x else y)
       go true e = rw (eqb-true k n e) p
@@ -41,7 +41,7 @@ module _ (P : ℕ → Kind → Type 0) (k v : ℕ) (w : List ℕ) where
       → P 30 (bad false) → P 31 (bad true) → (eqb k 30 ≡ false → eqb k 31 ≡ false → eqb k 10 ≡ false → eqb k 0 ≡ false → P k (mark k)) → P k (kind_by k v w)
   unfolding kind_by
   by_kind a b c d e f g h i j =
-      if-is 97 _ _ a (λ _. if-is 48 _ _ b (λ _. if-is 39 _ _ c (λ _. if-is 34 _ _ d (λ _. if-is 10 _ _ e (λ n. if-is 0 _ _ f (λ z. if-is 33 _ _ g (λ _. if-is 30 _ _ h (λ x. if-is 31 _ _ i (λ y. j x y n z)))))))))
+      if_is 97 _ _ a (λ _. if_is 48 _ _ b (λ _. if_is 39 _ _ c (λ _. if_is 34 _ _ d (λ _. if_is 10 _ _ e (λ n. if_is 0 _ _ f (λ z. if_is 33 _ _ g (λ _. if_is 30 _ _ h (λ x. if_is 31 _ _ i (λ y. j x y n z)))))))))
 
 module _ (k v : ℕ) (w : List ℕ) where
   pub mark_is : (a : Char) → Plain a → is_mark a (kind_by k v w) ≡ eqb k (code a)

@@ -2,7 +2,7 @@
 #![tactic(auto)]
 
 ghost use Rattle.std.specs.Prelude.{◌≡◌, true, false, ◌||◌, eqb};
-ghost use Rattle.rules.specs.Reader.{at, next as nextToken, numbers_of};
+ghost use Rattle.rules.specs.Reader.{at, next as next_token, numbers_of};
 ghost use Rattle.rules.specs.Statements.{next_row};
 ghost use Rattle.rules.specs.Calls.{Short};
 ghost use Rattle.state.specs.Views.{InLine, text_of, line, whole, Passes, Fetches, Expects};
@@ -64,14 +64,14 @@ pub const COMMA: u32 = b',' as u32;
 
 pub const DOLLAR_SIGN: u32 = b'$' as u32;
 
-#[derive(Drop)]
+#[derive(Clone, Copy)]
 pub enum Step {
     Ahead(Parser),
     Stopped(Refusal),
 }
 
 // The answer of a reader that writes: the state and the place behind its records.
-#[derive(Drop)]
+#[derive(Clone, Copy)]
 pub enum Parsed {
     Done(Parser, u32),
     Refused(Refusal),
@@ -126,7 +126,7 @@ fn is_fault(kind: u32) -> bool
 // The next token of the line becomes the one ahead.
 pub fn next(src: &[u8], p: Parser) -> Step
     requires { Short src.now × InLine p }
-    ensures { Passes line src.now p nextToken result }
+    ensures { Passes line src.now p next_token result }
 {
     let t = fetch(src, p.pos);
     if is_fault(t.kind) {

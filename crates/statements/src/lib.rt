@@ -23,7 +23,7 @@ use state::{
 };
 
 // A statement with the place behind its records, or none left before the end of the source.
-#[derive(Drop)]
+#[derive(Clone, Copy)]
 pub enum StatementRead {
     Read(Parser, u32),
     NoneLeft(Parser),

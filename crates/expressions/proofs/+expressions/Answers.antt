@@ -12,7 +12,7 @@ use lib.ListN.{length}
 use Rattle.lexer.specs.Text.{bytes}
 use Rattle.rules.specs.Records.{PF, IN, encode}
 use Rattle.rules.specs.Reader.{nowhere, ◌>>◌}
-use Rattle.rules.specs.Expressions.{operator_of, expr, infixes as infixesOf}
+use Rattle.rules.specs.Expressions.{operator_of, expr, infixes as infixes_of}
 use Rattle.state.specs.Views.{line_of, line, Passes, Reads}
 use Rattle.operators.specs.Operators.{operator_number}
 use Rattle.expressions.specs.Ahead.{number_in}
@@ -74,7 +74,7 @@ tight-fuel t c =
     positive c.loop-op.invariant.0 (omega (arith, has_more c.args.src.now c.loop-op.q n z, c.loop-op.invariant.1))
 
 tight-turn : (t : ℕ) (c : goal.infixes-In-Stopped t) →
-    Sofar line c.args.src.now c.args.p (infixesOf (length (line_of c.args.src.now c.args.p).more) (expr c.args.deeper) c.args.level c.args.from) c.args.at c.args.out.now
+    Sofar line c.args.src.now c.args.p (infixes_of (length (line_of c.args.src.now c.args.p).more) (expr c.args.deeper) c.args.level c.args.from) c.args.at c.args.out.now
     c.loop-op.q (turn c.args.src.now c.loop-op.q (expr c.args.deeper) c.args.level c.args.from (tight-fuel t c).0 (operator_number c.in-Is.op) (c.infix_level-binds.result + 1)) c.loop-op.w c.loop-op.out
 tight-turn t c =
     let right = sym (ap (λ (n : ℕ). n + 1) c.infix_level-binds.ensures ∙ right_level_lem c.in-Is.op) in
@@ -102,7 +102,7 @@ tight-fuel_2 t c =
     positive c.loop-op.invariant.0 (omega (arith, has_more c.args.src.now c.loop-op.q n z, c.loop-op.invariant.1))
 
 tight-turn_2 : (t : ℕ) (c : goal.infixes-In-Refused t) →
-    Sofar line c.args.src.now c.args.p (infixesOf (length (line_of c.args.src.now c.args.p).more) (expr c.args.deeper) c.args.level c.args.from) c.args.at c.args.out.now
+    Sofar line c.args.src.now c.args.p (infixes_of (length (line_of c.args.src.now c.args.p).more) (expr c.args.deeper) c.args.level c.args.from) c.args.at c.args.out.now
     c.loop-op.q (turn c.args.src.now c.loop-op.q (expr c.args.deeper) c.args.level c.args.from (tight-fuel_2 t c).0 (operator_number c.in-Is.op) (c.infix_level-binds.result + 1)) c.loop-op.w c.loop-op.out
 tight-turn_2 t c =
     let right = sym (ap (λ (n : ℕ). n + 1) c.infix_level-binds.ensures ∙ right_level_lem c.in-Is.op) in
@@ -131,7 +131,7 @@ tight-fuel_3 t c =
     positive c.loop-op.invariant.0 (omega (arith, has_more c.args.src.now c.loop-op.q n z, c.loop-op.invariant.1))
 
 tight-turn_3 : (t : ℕ) (c : goal.infixes-After-slice_known-in-Done-1 t) →
-    Sofar line c.args.src.now c.args.p (infixesOf (length (line_of c.args.src.now c.args.p).more) (expr c.args.deeper) c.args.level c.args.from) c.args.at c.args.out.now
+    Sofar line c.args.src.now c.args.p (infixes_of (length (line_of c.args.src.now c.args.p).more) (expr c.args.deeper) c.args.level c.args.from) c.args.at c.args.out.now
     c.loop-op.q (turn c.args.src.now c.loop-op.q (expr c.args.deeper) c.args.level c.args.from (tight-fuel_3 t c).0 (operator_number c.in-Is.op) (c.infix_level-binds.result + 1)) c.loop-op.w c.loop-op.out
 tight-turn_3 t c =
     let right = sym (ap (λ (n : ℕ). n + 1) c.infix_level-binds.ensures ∙ right_level_lem c.in-Is.op) in

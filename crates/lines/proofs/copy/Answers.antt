@@ -1,6 +1,5 @@
 use Rattle.std.proofs.Common.{◌∙◌, ap, ◌+◌, ℕ, List, get_or}
 use lib.ListN.{set}
-use Rattle.records.specs.Writes.{stores}
 use Rattle.lines.proofs.Copies.{stored_none, stored_more}
 use Rattle.lines.proofs.copy.Goals as goal
 
