@@ -5,6 +5,7 @@
 ghost use Rattle.std.specs.Prelude.{◌<◌, ◌≤◌, length, take, IfOk};
 ghost use Rattle.std.specs.Io.KnownBytes.{Consumes, IsAtEnd};
 
+use std::fmt::InlineText;
 use std::io;
 use std::io::Read;
 use std::process::ExitCode;
@@ -36,12 +37,10 @@ fn reason(text: &str) -> &str {
     }
 }
 
-// Says on standard error what failed, and why. Where there is no memory for that, the error's text is printed as it is.
-fn fail(rt: &(impl Eprint + Alloc), what: &str, error: io::Error) -> ExitCode {
-    let _ = match error.to_string(rt.alloc()) {
-        Ok(text) => eprintln!(rt; "listing: {what}: {}", reason(text.as_str())),
-        Err(_) => eprintln!(rt; "listing: {what}: {error}"),
-    };
+// Says on standard error what failed, and why.
+fn fail(rt: &impl Eprint, what: &str, error: io::Error) -> ExitCode {
+    let text = InlineText::<256>::of(error);
+    let _ = eprintln!(rt; "listing: {what}: {}", reason(text.as_str()));
     ExitCode::FAILURE
 }
 

@@ -10,13 +10,25 @@
 // status 1.
 #![tactic(auto)]
 
-ghost use Rattle.std.specs.Prelude.{◌≤◌, ◌<◌, length};
+ghost use Rattle.std.specs.Prelude.{◌≤◌, ◌<◌, length, IfOk};
 
 use std::io;
 use std::io::Read;
 
-// The input's room, twice as long as what is recorded; what stands behind it is not read.
-const ROOM: u64 = 131072;
+// Reads until the input ends or the buffer is full, and gives how many bytes it read.
+fn read_input<R: Read>(from: &mut R, input: &mut [u8]) -> io::Result<usize>
+    ensures { IfOk result (λ n. n ≤ length input.new) }
+{
+    let mut n: usize = 0;
+    while n < input.len() {
+        let more = from.read(&mut input[n..])?;
+        if more == 0 {
+            return Ok(n);
+        }
+        n += more;
+    }
+    Ok(n)
+}
 
 // A byte of a source, and the place behind it in the line.
 #[derive(Drop)]
@@ -181,11 +193,12 @@ fn all(
     Ok(())
 }
 
+// The buffer is twice as long as what is recorded; what it doesn't hold is not read.
 fn main(rt: HostRuntime) -> io::Result<()> {
-    let mut input = Vec::new(rt.alloc());
+    let mut input = [0u8; 131072];
     let mut source = [0u8; 65537];
     let mut listing = [0u8; 65536];
     let mut text = [0u8; 393325];
-    rt.stdin().take(ROOM).read_to_end(&mut input)?;
-    all(&rt, input.as_slice(), &mut source, &mut listing, &mut text)
+    let n = read_input(&mut rt.stdin(), &mut input)?;
+    all(&rt, &input[..n], &mut source, &mut listing, &mut text)
 }
