@@ -1,6 +1,7 @@
 -- One record of a listing: where its bytes end, and what its mark and its fields say of it.
 -- Assumes nothing.
 use Rattle.std.specs.Prelude.{if◌then◌else◌}
+use Rattle.std.proofs.Common.{Fits, w8}
 use mathlib.Core.Path.{◌≡◌, refl, sym, ap, ◌∙◌}
 use mathlib.Core.Bool.{true, false, true≢false}
 use mathlib.Core.List.{List, [], ◌∷◌, ◌++◌, append_assoc}
@@ -20,10 +21,15 @@ use Rattle.rules.proofs.Forms.{is_laden, data_of, two_letters, some_field}
 use Rattle.rules.proofs.Decoded.{Low, AllLow, Ranged, tail_of, parts, nth_is}
 use Rattle.rules.proofs.Reencode.{Octets, octets_drop, record_ranged, also_some, reencoded}
 use Rattle.records.specs.Marks.{letters_of, count_of, field_at}
-use Rattle.records.specs.Moves.{records_at, first, record_at, Opens}
+use Rattle.records.specs.Moves.{records_at, first, record_at, Decodes, Opens}
 use Rattle.records.proofs.Fields.{letters_of_lem}
 use Rattle.records.proofs.Marking.{count_of_lem, two_fields, data_mark, start_mark}
 use Rattle.records.proofs.Listed.{octets}
+
+-- The record at a place of a slice's bytes, told its letters.
+pub opened : (l : List ℕ) (at : ℕ) {mark : ℕ} → ((i : ℕ) → Fits w8 (get_or l i 0)) → Decodes l at → at < length l
+    → letters_of mark ≡ get_or l at 0 ∷ get_or l (at + 1) 0 ∷ [] → Opens l at mark
+opened l at f d h e = record { octets = λ i. (f i).fits; decodes = d; there = h; letters = e }
 
 -- THE FIRST RECORD OF BYTES, and those behind it.
 pub record Split (s : List ℕ) (rs : List Record) : Type 0 where

@@ -28,7 +28,8 @@ pub record NumbersTell (profile : Profile) : Type 0 where
   pub of_token : (source : List ℕ) (p : ℕ) (c : Cause) → token_call source p ≡ refuses c → ¬ ((numbers_of c).number ≡ 0)
   pub of_statement : (source : List ℕ) (p room : ℕ) (c : Cause) → statement_call profile source p room ≡ refuses c → ¬ ((numbers_of c).number ≡ 0)
   pub of_full_read : (source : List ℕ) (room : ℕ) (c : Cause) → full_read profile source room ≡ refuses c → ¬ ((numbers_of c).number ≡ 0)
-  pub of_patch : (old bytes : List ℕ) (a : ℕ) (new : List ℕ) (room_s room_l : ℕ) (c : Cause) → patch profile old bytes a new room_s room_l ≡ refuses c
+  pub of_patch : (old bytes : List ℕ) (a : ℕ) (new : List ℕ) (room_s room_l : ℕ) (c : Cause)
+      → patch profile old bytes a new room_s room_l ≡ refuses c
       → ¬ ((numbers_of c).number ≡ 0)
   pub of_evaluate : (op : ℕ) (a b : ℤ) (c : Cause) → evaluate op a b ≡ refuses c → ¬ ((numbers_of c).number ≡ 0)
 

@@ -32,7 +32,9 @@ edited s a new = above s a ++ (new ++ behind s a)
 -- The lines that end in a line feed; l is what is passed of the first.
 unfoldable pub lines_from : List ℕ → List ℕ → List (List ℕ)
 lines_from l [] = []
-lines_from l (c ∷ cs) = let r : List (List ℕ) = lines_from [] cs in let q : List (List ℕ) = lines_from (l ++ (c ∷ [])) cs in if is "\n" c then (l ∷ r) else q
+lines_from l (c ∷ cs) =
+    let r : List (List ℕ) = lines_from [] cs in
+    let q : List (List ℕ) = lines_from (l ++ (c ∷ [])) cs in if is "\n" c then (l ∷ r) else q
 
 -- A line that has only blanks and a comment has no token but its end.
 unfoldable pub all_ends : List Lexeme → Bool

@@ -142,6 +142,6 @@ unfoldable pub expect : Char → ℕ → Reader Line (Unit {0})
 expect a n = kind >>= λ k. if is_mark a k then next else refuse_here n
 
 unfoldable pub open_reader : Unit {0}
-unfolding open_lexemes after thence ◌>>=◌ ◌>>◌ return write refuse or_back attempt refused_as arrive step next ahead kind passed left refuse_here is_mark
-    is_line_end expect
+unfolding open_lexemes after thence ◌>>=◌ ◌>>◌ return write refuse or_back attempt refused_as arrive step next ahead kind passed left refuse_here
+    is_mark is_line_end expect
 open_reader = tt

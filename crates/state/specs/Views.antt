@@ -110,7 +110,8 @@ Kept line s p q = rows_of s q ≡ rows_of s p
 Kept whole s p q = Unit {0}
 
 -- From p the reader m comes to q with the value a; its records are written from `at` on, and w is the place behind them.
-pub record Gives (L : Level) (s : List ℕ) (p : Parser) {A : Type 0} (m : Reader (On L) A) (at : ℕ) (l l' : List ℕ) (q : Parser) (w : ℕ) (a : A) : Type 0 where
+pub record Gives (L : Level) (s : List ℕ) (p : Parser) {A : Type 0} (m : Reader (On L) A)
+    (at : ℕ) (l l' : List ℕ) (q : Parser) (w : ℕ) (a : A) : Type 0 where
   pub v : List Record
   pub reads : m (view L s p) ≡ done v a (view L s q)
   pub kept : Kept L s p q

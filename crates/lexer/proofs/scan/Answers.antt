@@ -1,10 +1,8 @@
 -- The first byte settles the token: the classes of first bytes lie apart, so the order of the tests is free.
-use Prim.Native.Nat.{◌<◌}
 use mathlib.Core.Path.{refl, sym, ◌∙◌}
 use mathlib.Core.Logic.{⊎_elim}
 use borrow.Author.Tests.{eqb-true, eqb-false}
 use native.Mathlib.Omega.{arith}
-use lib.ListN.{get_or}
 use Rattle.lexer.proofs.Branches.{or_split}
 use Rattle.lexer.proofs.Runs.{one_of}
 use Rattle.lexer.proofs.Scans.{run_end_is, string_closed, string_unclosed, string_room, scanned_at, scanned_end, line_scanned, mark_scanned, stray_scanned, token_comment, token_blank, token_number, token_word, token_string, token_line, token_mark, token_other}
@@ -13,34 +11,22 @@ use Rattle.lexer.proofs.scan.Goals as goal
 pub returns-then-source-at : goal.returns-then-source-at
 returns-then-source-at c = scanned_end _ _ c.if-source-at.true
 
-byte : (c : goal.After-run_end-end) → get_or c.args.source.now c.args.at 0 < 256
-byte c = omega (arith, c.shared_slice_known-2-1.given c.args.at)
-
 pub returns-then-is_whitespace : goal.returns-then-is_whitespace
-returns-then-is_whitespace c = run_end_is _ _ _ _ c.run_end-end.ensures 32 ∙ scanned_at _ _ c.if-source-at.false (token_blank _ _ (byte c) (sym c.is_whitespace.ensures ∙ c.if-is_whitespace.true))
-
-byte_2 : (c : goal.After-run_end-end-then-is_identifier_first) → get_or c.args.source.now c.args.at 0 < 256
-byte_2 c = omega (arith, c.shared_slice_known-2-1.given c.args.at)
+returns-then-is_whitespace c = run_end_is _ _ _ _ c.run_end-end.ensures 32 ∙ scanned_at _ _ c.if-source-at.false (token_blank _ _ (c.type_inv.source c.args.at).fits (sym c.is_whitespace.ensures ∙ c.if-is_whitespace.true))
 
 pub returns-then-is_identifier_first : goal.returns-then-is_identifier_first
-returns-then-is_identifier_first c = run_end_is _ _ _ _ c.run_end-end-then-is_identifier_first.ensures 97 ∙ scanned_at _ _ c.if-source-at.false (token_word _ _ (byte_2 c) (sym c.is_identifier_first.ensures ∙ c.if-is_identifier_first.true))
+returns-then-is_identifier_first c = run_end_is _ _ _ _ c.run_end-end-then-is_identifier_first.ensures 97 ∙ scanned_at _ _ c.if-source-at.false (token_word _ _ (c.type_inv.source c.args.at).fits (sym c.is_identifier_first.ensures ∙ c.if-is_identifier_first.true))
 
 pub number-requires : goal.number-requires
 number-requires c = (c.if-source-at.false, refl, (sym c.is_decimal_digit.ensures ∙ c.if-is_decimal_digit.true))
 
-byte_3 : (c : goal.After-number) → get_or c.args.source.now c.args.at 0 < 256
-byte_3 c = omega (arith, c.shared_slice_known-2-1.given c.args.at)
-
 pub returns-then-is_decimal_digit : goal.returns-then-is_decimal_digit
-returns-then-is_decimal_digit c = c.number.ensures ∙ scanned_at _ _ c.if-source-at.false (token_number _ _ (byte_3 c) (sym c.is_decimal_digit.ensures ∙ c.if-is_decimal_digit.true))
-
-byte_4 : (c : goal.Then-is_punctuation-c) → get_or c.args.source.now c.args.at 0 < 256
-byte_4 c = omega (arith, c.shared_slice_known-2-1.given c.args.at)
+returns-then-is_decimal_digit c = c.number.ensures ∙ scanned_at _ _ c.if-source-at.false (token_number _ _ (c.type_inv.source c.args.at).fits (sym c.is_decimal_digit.ensures ∙ c.if-is_decimal_digit.true))
 
 pub returns-then-is_punctuation-c : goal.returns-then-is_punctuation-c
 returns-then-is_punctuation-c c =
     ⊎_elim
-    (λ p. mark_scanned _ _ (sym c.is_punctuation.ensures ∙ p) ∙ scanned_at _ _ c.if-source-at.false (token_mark _ _ (byte_4 c) (sym c.is_punctuation.ensures ∙ p)))
+    (λ p. mark_scanned _ _ (sym c.is_punctuation.ensures ∙ p) ∙ scanned_at _ _ c.if-source-at.false (token_mark _ _ (c.type_inv.source c.args.at).fits (sym c.is_punctuation.ensures ∙ p)))
     (λ n. line_scanned _ _ (eqb-true _ 10 n) ∙ scanned_at _ _ c.if-source-at.false (token_line _ _ (eqb-true _ 10 n)))
     (one_of _ _ c.if-is_punctuation-c.true)
 
@@ -56,11 +42,8 @@ returns-then-after-eq39 c = string_closed _ _ _ c.run_end-end-then-c-eq39.ensure
 pub returns-then-c-eq39 : goal.returns-then-c-eq39
 returns-then-c-eq39 c = string_unclosed _ _ _ c.run_end-end-then-c-eq39.ensures (λ q. c.if-after-eq39.false (c.char_at-after.ensures ∙ q)) ∙ scanned_at _ _ c.if-source-at.false (token_string _ _ c.if-c-eq39.true)
 
-byte_5 : (c : goal.Else-c-eq39) → get_or c.args.source.now c.args.at 0 < 256
-byte_5 c = omega (arith, c.shared_slice_known-2-1.given c.args.at)
-
 pub overflow_cast-result : goal.overflow_cast-result
-overflow_cast-result c = omega (arith, byte_5 c)
+overflow_cast-result c = omega (arith, c.type_inv.source c.args.at)
 
 pub returns : goal.returns
 returns c =

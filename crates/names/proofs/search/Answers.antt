@@ -1,167 +1,58 @@
 -- Seven halvings leave one row of at most 128.
-use Prim.Native.Nat.{◌+◌, ◌*◌}
-use native.Mathlib.Omega.{arith}
+use Rattle.std.proofs.Common.{◌≡◌, ℕ, List, true, ◌+◌, ◌*◌, ◌<◌, get_or, arith}
 use Rattle.names.specs.Names.{rows_in}
+use Rattle.names.specs.Keys.{half, good_table}
+use Rattle.names.specs.declared.Part.{Part}
 use Rattle.names.proofs.Rows.{few_rows}
 use Rattle.names.proofs.Halves.{Bounds, all_rows, narrows, one, half_most}
 use Rattle.names.proofs.search.Goals as goal
 
-bounds : (c : goal.After-shared_slice_known-1) → let a = c.args in Bounds a.table.now a.key 0 (rows_in a.table.now)
-bounds c = all_rows c.args.table.now c.requires.0 c.args.key
+-- The rows that are left after each halving, of a table that it is asked of with a key.
+module _ (t : List ℕ) (good : good_table t ≡ true) (octets : (i : ℕ) → get_or t i 0 < 256) (key : ℕ) where
+  abbrev Halves : Part → ℕ → ℕ → Type 0
+  Halves p row rows = p ≡ half t (key * 256 + 255) row rows
+
+  once : {p1 : Part} → Halves p1 0 (rows_in t) → Bounds t key p1.row p1.rows
+  once e1 = narrows t good octets key (all_rows t good key) e1
+
+  twice : {p1 p2 : Part} → Halves p1 0 (rows_in t) → Halves p2 p1.row p1.rows → Bounds t key p2.row p2.rows
+  twice e1 e2 = narrows t good octets key (once e1) e2
+
+  thrice : {p1 p2 p3 : Part} → Halves p1 0 (rows_in t) → Halves p2 p1.row p1.rows → Halves p3 p2.row p2.rows → Bounds t key p3.row p3.rows
+  thrice e1 e2 e3 = narrows t good octets key (twice e1 e2) e3
+
+  four_times : {p1 p2 p3 p4 : Part} → Halves p1 0 (rows_in t) → Halves p2 p1.row p1.rows → Halves p3 p2.row p2.rows → Halves p4 p3.row p3.rows → Bounds t key p4.row p4.rows
+  four_times e1 e2 e3 e4 = narrows t good octets key (thrice e1 e2 e3) e4
+
+  five_times : {p1 p2 p3 p4 p5 : Part} → Halves p1 0 (rows_in t) → Halves p2 p1.row p1.rows → Halves p3 p2.row p2.rows → Halves p4 p3.row p3.rows → Halves p5 p4.row p4.rows → Bounds t key p5.row p5.rows
+  five_times e1 e2 e3 e4 e5 = narrows t good octets key (four_times e1 e2 e3 e4) e5
+
+  six_times : {p1 p2 p3 p4 p5 p6 : Part} → Halves p1 0 (rows_in t) → Halves p2 p1.row p1.rows → Halves p3 p2.row p2.rows → Halves p4 p3.row p3.rows → Halves p5 p4.row p4.rows → Halves p6 p5.row p5.rows → Bounds t key p6.row p6.rows
+  six_times e1 e2 e3 e4 e5 e6 = narrows t good octets key (five_times e1 e2 e3 e4 e5) e6
+
+  seven_times : {p1 p2 p3 p4 p5 p6 p7 : Part} → Halves p1 0 (rows_in t) → Halves p2 p1.row p1.rows → Halves p3 p2.row p2.rows → Halves p4 p3.row p3.rows → Halves p5 p4.row p4.rows → Halves p6 p5.row p5.rows → Halves p7 p6.row p6.rows → Bounds t key p7.row p7.rows
+  seven_times e1 e2 e3 e4 e5 e6 e7 = narrows t good octets key (six_times e1 e2 e3 e4 e5 e6) e7
 
 pub halved-part-requires : goal.halved-part-requires
-halved-part-requires c = ((bounds c).left, (bounds c).within)
-
-bounds_2 : (c : goal.After-halved-part) → let a = c.args in Bounds a.table.now a.key 0 (rows_in a.table.now)
-bounds_2 c = all_rows c.args.table.now c.requires.0 c.args.key
-
-bounds-1 : (c : goal.After-halved-part) → let a = c.args in Bounds a.table.now a.key c.halved-part.result.row c.halved-part.result.rows
-bounds-1 c =
-    narrows c.args.table.now c.requires.0 (λ i. omega (arith, c.shared_slice_known-1.given i)) c.args.key (bounds_2 c) c.halved-part.ensures
+halved-part-requires c = let b = all_rows c.args.table.now c.requires.0 c.args.key in (b.left, b.within)
 
 pub halved-part-requires-2 : goal.halved-part-requires-2
-halved-part-requires-2 c = ((bounds-1 c).left, (bounds-1 c).within)
-
-bounds_3 : (c : goal.After-halved-part-2) → let a = c.args in Bounds a.table.now a.key 0 (rows_in a.table.now)
-bounds_3 c = all_rows c.args.table.now c.requires.0 c.args.key
-
-bounds-1_2 : (c : goal.After-halved-part-2) → let a = c.args in Bounds a.table.now a.key c.halved-part.result.row c.halved-part.result.rows
-bounds-1_2 c =
-    narrows c.args.table.now c.requires.0 (λ i. omega (arith, c.shared_slice_known-1.given i)) c.args.key (bounds_3 c) c.halved-part.ensures
-
-bounds-2 : (c : goal.After-halved-part-2) → let a = c.args in Bounds a.table.now a.key c.halved-part-2.result.row c.halved-part-2.result.rows
-bounds-2 c =
-    narrows c.args.table.now c.requires.0 (λ i. omega (arith, c.shared_slice_known-1.given i)) c.args.key (bounds-1_2 c) c.halved-part-2.ensures
+halved-part-requires-2 c = let b = once c.args.table.now c.requires.0 (λ i. omega (arith, c.type_inv.table i)) c.args.key c.halved-part.ensures in (b.left, b.within)
 
 pub halved-part-requires-3 : goal.halved-part-requires-3
-halved-part-requires-3 c = ((bounds-2 c).left, (bounds-2 c).within)
-
-bounds_4 : (c : goal.After-halved-part-3) → let a = c.args in Bounds a.table.now a.key 0 (rows_in a.table.now)
-bounds_4 c = all_rows c.args.table.now c.requires.0 c.args.key
-
-bounds-1_3 : (c : goal.After-halved-part-3) → let a = c.args in Bounds a.table.now a.key c.halved-part.result.row c.halved-part.result.rows
-bounds-1_3 c =
-    narrows c.args.table.now c.requires.0 (λ i. omega (arith, c.shared_slice_known-1.given i)) c.args.key (bounds_4 c) c.halved-part.ensures
-
-bounds-2_2 : (c : goal.After-halved-part-3) → let a = c.args in Bounds a.table.now a.key c.halved-part-2.result.row c.halved-part-2.result.rows
-bounds-2_2 c =
-    narrows c.args.table.now c.requires.0 (λ i. omega (arith, c.shared_slice_known-1.given i)) c.args.key (bounds-1_3 c) c.halved-part-2.ensures
-
-bounds-3 : (c : goal.After-halved-part-3) → let a = c.args in Bounds a.table.now a.key c.halved-part-3.result.row c.halved-part-3.result.rows
-bounds-3 c =
-    narrows c.args.table.now c.requires.0 (λ i. omega (arith, c.shared_slice_known-1.given i)) c.args.key (bounds-2_2 c) c.halved-part-3.ensures
+halved-part-requires-3 c = let b = twice c.args.table.now c.requires.0 (λ i. omega (arith, c.type_inv.table i)) c.args.key c.halved-part.ensures c.halved-part-2.ensures in (b.left, b.within)
 
 pub halved-part-requires-4 : goal.halved-part-requires-4
-halved-part-requires-4 c = ((bounds-3 c).left, (bounds-3 c).within)
-
-bounds_5 : (c : goal.After-halved-part-4) → let a = c.args in Bounds a.table.now a.key 0 (rows_in a.table.now)
-bounds_5 c = all_rows c.args.table.now c.requires.0 c.args.key
-
-bounds-1_4 : (c : goal.After-halved-part-4) → let a = c.args in Bounds a.table.now a.key c.halved-part.result.row c.halved-part.result.rows
-bounds-1_4 c =
-    narrows c.args.table.now c.requires.0 (λ i. omega (arith, c.shared_slice_known-1.given i)) c.args.key (bounds_5 c) c.halved-part.ensures
-
-bounds-2_3 : (c : goal.After-halved-part-4) → let a = c.args in Bounds a.table.now a.key c.halved-part-2.result.row c.halved-part-2.result.rows
-bounds-2_3 c =
-    narrows c.args.table.now c.requires.0 (λ i. omega (arith, c.shared_slice_known-1.given i)) c.args.key (bounds-1_4 c) c.halved-part-2.ensures
-
-bounds-3_2 : (c : goal.After-halved-part-4) → let a = c.args in Bounds a.table.now a.key c.halved-part-3.result.row c.halved-part-3.result.rows
-bounds-3_2 c =
-    narrows c.args.table.now c.requires.0 (λ i. omega (arith, c.shared_slice_known-1.given i)) c.args.key (bounds-2_3 c) c.halved-part-3.ensures
-
-bounds-4 : (c : goal.After-halved-part-4) → let a = c.args in Bounds a.table.now a.key c.halved-part-4.result.row c.halved-part-4.result.rows
-bounds-4 c =
-    narrows c.args.table.now c.requires.0 (λ i. omega (arith, c.shared_slice_known-1.given i)) c.args.key (bounds-3_2 c) c.halved-part-4.ensures
+halved-part-requires-4 c = let b = thrice c.args.table.now c.requires.0 (λ i. omega (arith, c.type_inv.table i)) c.args.key c.halved-part.ensures c.halved-part-2.ensures c.halved-part-3.ensures in (b.left, b.within)
 
 pub halved-part-requires-5 : goal.halved-part-requires-5
-halved-part-requires-5 c = ((bounds-4 c).left, (bounds-4 c).within)
-
-bounds_6 : (c : goal.After-halved-part-5) → let a = c.args in Bounds a.table.now a.key 0 (rows_in a.table.now)
-bounds_6 c = all_rows c.args.table.now c.requires.0 c.args.key
-
-bounds-1_5 : (c : goal.After-halved-part-5) → let a = c.args in Bounds a.table.now a.key c.halved-part.result.row c.halved-part.result.rows
-bounds-1_5 c =
-    narrows c.args.table.now c.requires.0 (λ i. omega (arith, c.shared_slice_known-1.given i)) c.args.key (bounds_6 c) c.halved-part.ensures
-
-bounds-2_4 : (c : goal.After-halved-part-5) → let a = c.args in Bounds a.table.now a.key c.halved-part-2.result.row c.halved-part-2.result.rows
-bounds-2_4 c =
-    narrows c.args.table.now c.requires.0 (λ i. omega (arith, c.shared_slice_known-1.given i)) c.args.key (bounds-1_5 c) c.halved-part-2.ensures
-
-bounds-3_3 : (c : goal.After-halved-part-5) → let a = c.args in Bounds a.table.now a.key c.halved-part-3.result.row c.halved-part-3.result.rows
-bounds-3_3 c =
-    narrows c.args.table.now c.requires.0 (λ i. omega (arith, c.shared_slice_known-1.given i)) c.args.key (bounds-2_4 c) c.halved-part-3.ensures
-
-bounds-4_2 : (c : goal.After-halved-part-5) → let a = c.args in Bounds a.table.now a.key c.halved-part-4.result.row c.halved-part-4.result.rows
-bounds-4_2 c =
-    narrows c.args.table.now c.requires.0 (λ i. omega (arith, c.shared_slice_known-1.given i)) c.args.key (bounds-3_3 c) c.halved-part-4.ensures
-
-bounds-5 : (c : goal.After-halved-part-5) → let a = c.args in Bounds a.table.now a.key c.halved-part-5.result.row c.halved-part-5.result.rows
-bounds-5 c =
-    narrows c.args.table.now c.requires.0 (λ i. omega (arith, c.shared_slice_known-1.given i)) c.args.key (bounds-4_2 c) c.halved-part-5.ensures
+halved-part-requires-5 c = let b = four_times c.args.table.now c.requires.0 (λ i. omega (arith, c.type_inv.table i)) c.args.key c.halved-part.ensures c.halved-part-2.ensures c.halved-part-3.ensures c.halved-part-4.ensures in (b.left, b.within)
 
 pub halved-part-requires-6 : goal.halved-part-requires-6
-halved-part-requires-6 c = ((bounds-5 c).left, (bounds-5 c).within)
-
-bounds_7 : (c : goal.After-halved-part-6) → let a = c.args in Bounds a.table.now a.key 0 (rows_in a.table.now)
-bounds_7 c = all_rows c.args.table.now c.requires.0 c.args.key
-
-bounds-1_6 : (c : goal.After-halved-part-6) → let a = c.args in Bounds a.table.now a.key c.halved-part.result.row c.halved-part.result.rows
-bounds-1_6 c =
-    narrows c.args.table.now c.requires.0 (λ i. omega (arith, c.shared_slice_known-1.given i)) c.args.key (bounds_7 c) c.halved-part.ensures
-
-bounds-2_5 : (c : goal.After-halved-part-6) → let a = c.args in Bounds a.table.now a.key c.halved-part-2.result.row c.halved-part-2.result.rows
-bounds-2_5 c =
-    narrows c.args.table.now c.requires.0 (λ i. omega (arith, c.shared_slice_known-1.given i)) c.args.key (bounds-1_6 c) c.halved-part-2.ensures
-
-bounds-3_4 : (c : goal.After-halved-part-6) → let a = c.args in Bounds a.table.now a.key c.halved-part-3.result.row c.halved-part-3.result.rows
-bounds-3_4 c =
-    narrows c.args.table.now c.requires.0 (λ i. omega (arith, c.shared_slice_known-1.given i)) c.args.key (bounds-2_5 c) c.halved-part-3.ensures
-
-bounds-4_3 : (c : goal.After-halved-part-6) → let a = c.args in Bounds a.table.now a.key c.halved-part-4.result.row c.halved-part-4.result.rows
-bounds-4_3 c =
-    narrows c.args.table.now c.requires.0 (λ i. omega (arith, c.shared_slice_known-1.given i)) c.args.key (bounds-3_4 c) c.halved-part-4.ensures
-
-bounds-5_2 : (c : goal.After-halved-part-6) → let a = c.args in Bounds a.table.now a.key c.halved-part-5.result.row c.halved-part-5.result.rows
-bounds-5_2 c =
-    narrows c.args.table.now c.requires.0 (λ i. omega (arith, c.shared_slice_known-1.given i)) c.args.key (bounds-4_3 c) c.halved-part-5.ensures
-
-bounds-6 : (c : goal.After-halved-part-6) → let a = c.args in Bounds a.table.now a.key c.halved-part-6.result.row c.halved-part-6.result.rows
-bounds-6 c =
-    narrows c.args.table.now c.requires.0 (λ i. omega (arith, c.shared_slice_known-1.given i)) c.args.key (bounds-5_2 c) c.halved-part-6.ensures
+halved-part-requires-6 c = let b = five_times c.args.table.now c.requires.0 (λ i. omega (arith, c.type_inv.table i)) c.args.key c.halved-part.ensures c.halved-part-2.ensures c.halved-part-3.ensures c.halved-part-4.ensures c.halved-part-5.ensures in (b.left, b.within)
 
 pub halved-part-requires-7 : goal.halved-part-requires-7
-halved-part-requires-7 c = ((bounds-6 c).left, (bounds-6 c).within)
-
-bounds_8 : (c : goal.After-halved-part-7) → let a = c.args in Bounds a.table.now a.key 0 (rows_in a.table.now)
-bounds_8 c = all_rows c.args.table.now c.requires.0 c.args.key
-
-bounds-1_7 : (c : goal.After-halved-part-7) → let a = c.args in Bounds a.table.now a.key c.halved-part.result.row c.halved-part.result.rows
-bounds-1_7 c =
-    narrows c.args.table.now c.requires.0 (λ i. omega (arith, c.shared_slice_known-1.given i)) c.args.key (bounds_8 c) c.halved-part.ensures
-
-bounds-2_6 : (c : goal.After-halved-part-7) → let a = c.args in Bounds a.table.now a.key c.halved-part-2.result.row c.halved-part-2.result.rows
-bounds-2_6 c =
-    narrows c.args.table.now c.requires.0 (λ i. omega (arith, c.shared_slice_known-1.given i)) c.args.key (bounds-1_7 c) c.halved-part-2.ensures
-
-bounds-3_5 : (c : goal.After-halved-part-7) → let a = c.args in Bounds a.table.now a.key c.halved-part-3.result.row c.halved-part-3.result.rows
-bounds-3_5 c =
-    narrows c.args.table.now c.requires.0 (λ i. omega (arith, c.shared_slice_known-1.given i)) c.args.key (bounds-2_6 c) c.halved-part-3.ensures
-
-bounds-4_4 : (c : goal.After-halved-part-7) → let a = c.args in Bounds a.table.now a.key c.halved-part-4.result.row c.halved-part-4.result.rows
-bounds-4_4 c =
-    narrows c.args.table.now c.requires.0 (λ i. omega (arith, c.shared_slice_known-1.given i)) c.args.key (bounds-3_5 c) c.halved-part-4.ensures
-
-bounds-5_3 : (c : goal.After-halved-part-7) → let a = c.args in Bounds a.table.now a.key c.halved-part-5.result.row c.halved-part-5.result.rows
-bounds-5_3 c =
-    narrows c.args.table.now c.requires.0 (λ i. omega (arith, c.shared_slice_known-1.given i)) c.args.key (bounds-4_4 c) c.halved-part-5.ensures
-
-bounds-6_2 : (c : goal.After-halved-part-7) → let a = c.args in Bounds a.table.now a.key c.halved-part-6.result.row c.halved-part-6.result.rows
-bounds-6_2 c =
-    narrows c.args.table.now c.requires.0 (λ i. omega (arith, c.shared_slice_known-1.given i)) c.args.key (bounds-5_3 c) c.halved-part-6.ensures
-
-bounds-7 : (c : goal.After-halved-part-7) → let a = c.args in Bounds a.table.now a.key c.halved-part-7.result.row c.halved-part-7.result.rows
-bounds-7 c =
-    narrows c.args.table.now c.requires.0 (λ i. omega (arith, c.shared_slice_known-1.given i)) c.args.key (bounds-6_2 c) c.halved-part-7.ensures
+halved-part-requires-7 c = let b = six_times c.args.table.now c.requires.0 (λ i. omega (arith, c.type_inv.table i)) c.args.key c.halved-part.ensures c.halved-part-2.ensures c.halved-part-3.ensures c.halved-part-4.ensures c.halved-part-5.ensures c.halved-part-6.ensures in (b.left, b.within)
 
 pub returns : goal.returns
 returns c =
@@ -172,4 +63,5 @@ returns c =
     let m5 = half_most c.args.table.now (c.args.key * 256 + 255) c.halved-part-4.result.row c.halved-part-4.result.rows 4 c.halved-part-5.ensures (m4) in
     let m6 = half_most c.args.table.now (c.args.key * 256 + 255) c.halved-part-5.result.row c.halved-part-5.result.rows 2 c.halved-part-6.ensures (m5) in
     let m7 = half_most c.args.table.now (c.args.key * 256 + 255) c.halved-part-6.result.row c.halved-part-6.result.rows 1 c.halved-part-7.ensures (m6) in
-    (omega (arith, (bounds-7 c).left, (bounds-7 c).within), one c.args.table.now c.requires.0 c.args.key c.halved-part-7.result.row c.halved-part-7.result.rows (bounds-7 c) m7)
+    let b = seven_times c.args.table.now c.requires.0 (λ i. omega (arith, c.type_inv.table i)) c.args.key c.halved-part.ensures c.halved-part-2.ensures c.halved-part-3.ensures c.halved-part-4.ensures c.halved-part-5.ensures c.halved-part-6.ensures c.halved-part-7.ensures in
+    (omega (arith, b.left, b.within), one c.args.table.now c.requires.0 c.args.key c.halved-part-7.result.row c.halved-part-7.result.rows b m7)

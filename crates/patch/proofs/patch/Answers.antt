@@ -3,7 +3,10 @@
 use Prim.Native.Nat.{ℕ, ◌+◌, ◌≤◌}
 use mathlib.Core.Path.{◌≡◌, sym, ap, ◌∙◌}
 use native.Mathlib.Omega.{arith}
-use lib.ListN.{length}
+use lib.ListN.{length, drop}
+use mathlib.Core.List.{List}
+use Rattle.lexer.specs.Text.{run}
+use Rattle.lexer.specs.Tokens.{in_comment}
 use Rattle.rules.specs.Reader.{nowhere}
 use Rattle.rules.specs.Patch.{line_at}
 use Rattle.lines.proofs.Laws.{begins_within, line_length}
@@ -11,6 +14,10 @@ use Rattle.patch.proofs.Placing.{refused, same_edit}
 use Rattle.patch.proofs.Rereading.{end_within, edited_length}
 use Rattle.patch.proofs.Order.{clauses, no_line, has_feed, both_short, any_long, edited_long, all_lent}
 use Rattle.patch.proofs.patch.Goals as goal
+
+-- where the line ends
+ends : (s : List ℕ) (a : ℕ) {e : ℕ} → a ≤ length s → e ≡ a + run in_comment (drop a s) → e ≡ a + length (line_at s a)
+ends s a h e = e ∙ ap (λ (k : ℕ). a + k) (sym (line_length s a h))
 
 pub returns-then-not-begins_line : goal.returns-then-not-begins_line
 returns-then-not-begins_line c =
@@ -30,42 +37,18 @@ returns-then-old-text c =
 pub line_end-end-requires : goal.line_end-end-requires
 line_end-end-requires c = begins_within c.args.old.now c.args.place (sym c.begins_line.ensures ∙ c.if-not-begins_line.false)
 
-begins : (c : goal.After-line_end-end) → c.args.place ≤ length c.args.old.now
-begins c = begins_within c.args.old.now c.args.place (sym c.begins_line.ensures ∙ c.if-not-begins_line.false)
-
-ends : (c : goal.After-line_end-end) → c.line_end-end.result ≡ c.args.place + length (line_at c.args.old.now c.args.place)
-ends c = c.line_end-end.ensures ∙ ap (λ (k : ℕ). c.args.place + k) (sym (line_length c.args.old.now c.args.place (begins c)))
-
 pub overflow_sub-n-2 : goal.overflow_sub-n-2
-overflow_sub-n-2 c = omega (arith, ends c, end_within c.args.old.now c.args.place (begins c))
-
-begins_2 : (c : goal.After-refused_at-then-n-gt-SOURCE_MAX) → c.args.place ≤ length c.args.old.now
-begins_2 c = begins_within c.args.old.now c.args.place (sym c.begins_line.ensures ∙ c.if-not-begins_line.false)
-
-ends_2 : (c : goal.After-refused_at-then-n-gt-SOURCE_MAX) → c.line_end-end.result ≡ c.args.place + length (line_at c.args.old.now c.args.place)
-ends_2 c = c.line_end-end.ensures ∙ ap (λ (k : ℕ). c.args.place + k) (sym (line_length c.args.old.now c.args.place (begins_2 c)))
+overflow_sub-n-2 c = omega (arith, ends c.args.old.now c.args.place (begins_within c.args.old.now c.args.place (sym c.begins_line.ensures ∙ c.if-not-begins_line.false)) c.line_end-end.ensures, end_within c.args.old.now c.args.place (begins_within c.args.old.now c.args.place (sym c.begins_line.ensures ∙ c.if-not-begins_line.false)))
 
 pub returns-then-n-gt-SOURCE_MAX : goal.returns-then-n-gt-SOURCE_MAX
 returns-then-n-gt-SOURCE_MAX c =
-    let so = clauses (refused (nowhere 1) (edited_long c.args.old.now c.args.listing.now c.args.place c.args.text.now c.args.source.now c.args.out.now (sym c.begins_line.ensures ∙ c.if-not-begins_line.false) (omega (arith, c.line_end.ensures, c.if-line_end-text.false)) (omega (arith, edited_length c.args.old.now c.args.place (begins_2 c) (ends_2 c) c.args.text.now, c.if-n-gt-SOURCE_MAX.true))) c.refused_at-then-n-gt-SOURCE_MAX.ensures) in
+    let so = clauses (refused (nowhere 1) (edited_long c.args.old.now c.args.listing.now c.args.place c.args.text.now c.args.source.now c.args.out.now (sym c.begins_line.ensures ∙ c.if-not-begins_line.false) (omega (arith, c.line_end.ensures, c.if-line_end-text.false)) (omega (arith, edited_length c.args.old.now c.args.place (begins_within c.args.old.now c.args.place (sym c.begins_line.ensures ∙ c.if-not-begins_line.false)) (ends c.args.old.now c.args.place (begins_within c.args.old.now c.args.place (sym c.begins_line.ensures ∙ c.if-not-begins_line.false)) c.line_end-end.ensures) c.args.text.now, c.if-n-gt-SOURCE_MAX.true))) c.refused_at-then-n-gt-SOURCE_MAX.ensures) in
     record { answer = so.0; source = so.1.0; listing = so.1.1.0; demand_3 = so.1.1.1 }
 
-begins_3 : (c : goal.After-exchange_line-arg-2-1) → c.args.place ≤ length c.args.old.now
-begins_3 c = begins_within c.args.old.now c.args.place (sym c.begins_line.ensures ∙ c.if-not-begins_line.false)
-
-ends_3 : (c : goal.After-exchange_line-arg-2-1) → c.line_end-end.result ≡ c.args.place + length (line_at c.args.old.now c.args.place)
-ends_3 c = c.line_end-end.ensures ∙ ap (λ (k : ℕ). c.args.place + k) (sym (line_length c.args.old.now c.args.place (begins_3 c)))
-
 pub exchange_line-requires : goal.exchange_line-requires
-exchange_line-requires c = ((both_short (length c.args.old.now) (length c.args.text.now) c.if-old-text.false).0, (both_short (length c.args.old.now) (length c.args.text.now) c.if-old-text.false).1, (sym c.begins_line.ensures ∙ c.if-not-begins_line.false), ends_3 c, edited_length c.args.old.now c.args.place (begins_3 c) (ends_3 c) c.args.text.now, c.if-n-gt-SOURCE_MAX.false)
-
-begins_4 : (c : goal.After-slice_known-4-1) → c.args.place ≤ length c.args.old.now
-begins_4 c = begins_within c.args.old.now c.args.place (sym c.begins_line.ensures ∙ c.if-not-begins_line.false)
-
-ends_4 : (c : goal.After-slice_known-4-1) → c.line_end-end.result ≡ c.args.place + length (line_at c.args.old.now c.args.place)
-ends_4 c = c.line_end-end.ensures ∙ ap (λ (k : ℕ). c.args.place + k) (sym (line_length c.args.old.now c.args.place (begins_4 c)))
+exchange_line-requires c = ((both_short (length c.args.old.now) (length c.args.text.now) c.if-old-text.false).0, (both_short (length c.args.old.now) (length c.args.text.now) c.if-old-text.false).1, (sym c.begins_line.ensures ∙ c.if-not-begins_line.false), ends c.args.old.now c.args.place (begins_within c.args.old.now c.args.place (sym c.begins_line.ensures ∙ c.if-not-begins_line.false)) c.line_end-end.ensures, edited_length c.args.old.now c.args.place (begins_within c.args.old.now c.args.place (sym c.begins_line.ensures ∙ c.if-not-begins_line.false)) (ends c.args.old.now c.args.place (begins_within c.args.old.now c.args.place (sym c.begins_line.ensures ∙ c.if-not-begins_line.false)) c.line_end-end.ensures) c.args.text.now, c.if-n-gt-SOURCE_MAX.false)
 
 pub returns : goal.returns
 returns c =
-    let so = clauses (same_edit (all_lent c.args.old.now c.args.listing.now c.args.place c.args.text.now c.args.source.now c.args.out.now (sym c.begins_line.ensures ∙ c.if-not-begins_line.false) (omega (arith, c.line_end.ensures, c.if-line_end-text.false)) (both_short (length c.args.old.now) (length c.args.text.now) c.if-old-text.false).0 (omega (arith, edited_length c.args.old.now c.args.place (begins_4 c) (ends_4 c) c.args.text.now, c.if-n-gt-SOURCE_MAX.false))) c.exchange_line.ensures) in
+    let so = clauses (same_edit (all_lent c.args.old.now c.args.listing.now c.args.place c.args.text.now c.args.source.now c.args.out.now (sym c.begins_line.ensures ∙ c.if-not-begins_line.false) (omega (arith, c.line_end.ensures, c.if-line_end-text.false)) (both_short (length c.args.old.now) (length c.args.text.now) c.if-old-text.false).0 (omega (arith, edited_length c.args.old.now c.args.place (begins_within c.args.old.now c.args.place (sym c.begins_line.ensures ∙ c.if-not-begins_line.false)) (ends c.args.old.now c.args.place (begins_within c.args.old.now c.args.place (sym c.begins_line.ensures ∙ c.if-not-begins_line.false)) c.line_end-end.ensures) c.args.text.now, c.if-n-gt-SOURCE_MAX.false))) c.exchange_line.ensures) in
     record { answer = so.0; source = so.1.0; listing = so.1.1.0; demand_3 = so.1.1.1 }

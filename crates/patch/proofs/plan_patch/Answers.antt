@@ -3,7 +3,7 @@
 use mathlib.Core.Path.{sym, ◌∙◌}
 use Rattle.rules.specs.Reader.{nowhere}
 use Rattle.lines.proofs.Laws.{begins_within}
-use Rattle.patch.proofs.Order.{Formed, ill_formed, well_formed_lem, is_open_lem, is_closed}
+use Rattle.patch.proofs.Order.{ill_formed, well_formed_lem, is_open_lem, is_closed}
 use Rattle.patch.proofs.Planning.{same_plan}
 use Rattle.patch.proofs.plan_patch.Goals as goal
 
@@ -21,20 +21,11 @@ returns-then-not-well_formed c =
 pub open_line-requires : goal.open_line-requires
 open_line-requires c = (c.requires.0, c.requires.5, c.requires.6)
 
--- the listing is well-formed
-formed : (c : goal.After-refused_at-then-open_line) → Formed c.args.old.now c.args.listing.now c.args.place c.args.text.now c.args.source_room c.args.listing_room
-formed c =
-    well_formed_lem _ _ _ _ _ _ (sym c.well_formed-2.ensures ∙ c.if-not-well_formed.false)
-
 pub returns-then-open_line : goal.returns-then-open_line
 returns-then-open_line c =
     record {
-      so = (nowhere 40, is_open_lem _ _ _ _ _ _ (formed c) (sym c.open_line.ensures ∙ c.if-open_line.true), c.refused_at-then-open_line.ensures);
+      so = (nowhere 40, is_open_lem _ _ _ _ _ _ (well_formed_lem c.args.old.now c.args.listing.now c.args.place c.args.text.now c.args.source_room c.args.listing_room (sym c.well_formed-2.ensures ∙ c.if-not-well_formed.false)) (sym c.open_line.ensures ∙ c.if-open_line.true), c.refused_at-then-open_line.ensures);
     }
-
-formed_2 : (c : goal.Else-open_line) → Formed c.args.old.now c.args.listing.now c.args.place c.args.text.now c.args.source_room c.args.listing_room
-formed_2 c =
-    well_formed_lem _ _ _ _ _ _ (sym c.well_formed-2.ensures ∙ c.if-not-well_formed.false)
 
 pub plan_line-requires : goal.plan_line-requires
 plan_line-requires c = (
@@ -45,12 +36,8 @@ plan_line-requires c = (
   begins_within c.args.old.now c.args.place c.requires.5,
   c.requires.6,
   c.requires.7,
-  (formed_2 c).decodes,
+  (well_formed_lem c.args.old.now c.args.listing.now c.args.place c.args.text.now c.args.source_room c.args.listing_room (sym c.well_formed-2.ensures ∙ c.if-not-well_formed.false)).decodes,
 )
 
-formed_3 : (c : goal.After-plan_line) → Formed c.args.old.now c.args.listing.now c.args.place c.args.text.now c.args.source_room c.args.listing_room
-formed_3 c =
-    well_formed_lem _ _ _ _ _ _ (sym c.well_formed-2.ensures ∙ c.if-not-well_formed.false)
-
 pub returns : goal.returns
-returns c = same_plan (is_closed _ _ _ _ _ _ (formed_3 c) (sym c.open_line.ensures ∙ c.if-open_line.false)) c.plan_line.ensures
+returns c = same_plan (is_closed _ _ _ _ _ _ (well_formed_lem c.args.old.now c.args.listing.now c.args.place c.args.text.now c.args.source_room c.args.listing_room (sym c.well_formed-2.ensures ∙ c.if-not-well_formed.false)) (sym c.open_line.ensures ∙ c.if-open_line.false)) c.plan_line.ensures
