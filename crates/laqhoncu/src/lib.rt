@@ -1,4 +1,4 @@
-// What Rust and C link: thin functions over the libraries, each with the whole contract of what it calls.
+// What `laqhoncu_c` exports, and a crate may call: thin functions over the libraries, each with the whole contract of what it calls.
 #![tactic(auto)]
 
 ghost use Rattle.laqhoncu.specs.Counted.{count_from};
