@@ -1,6 +1,6 @@
 -- A record that the rules read and check, as the code does it: the test for room, the tests of its fields, and the stack behind it.
 use Rattle.std.specs.Prelude.{if◌then◌else◌}
-use mathlib.Core.Path.{◌≡◌, refl, sym, ◌∙◌}
+use mathlib.Core.Path.{◌≡◌, refl, sym, ap, ◌∙◌}
 use mathlib.Core.Bool.{Bool, true, false, ◌&&◌}
 use mathlib.Core.List.{List}
 use mathlib.Core.Option.{Option, none, some}
@@ -13,28 +13,10 @@ use borrow.Author.Tests.{le-leb, lt-leb, leb-true, leb-false}
 use Rattle.rules.specs.Records.{Record, laden, form_of}
 use Rattle.rules.specs.Decode.{Sized, nth, nths_from, having, data_at, record_of}
 use Rattle.rules.specs.WellFormed.{Stack, given, checked}
+use Rattle.records.specs.declared.marks.Mark.{Mark}
 use Rattle.records.specs.Marks.{letters_of}
 use Rattle.checker.specs.Checker.{Pass, field_in, sized, passes, whole}
 use Rattle.checker.proofs.Fields.{field_nth}
-
--- a record of n bytes: it has no room; its fields are not good; the stack says no; it is good
-module _ (n : ℕ) (s : List ℕ) (b : Bool) (o : Option Stack) where
-  pub short : length s < n → whole n s b o ≡ none
-  unfolding whole
-  short h = rw (lt-leb n (length s) h)
-
-  module _ (h : n ≤ length s) where
-    pub wrong : b ≡ false → whole n s b o ≡ none
-    unfolding whole given
-    wrong e = rw (le-leb n (length s) h, e)
-
-    pub refused : b ≡ true → o ≡ none → whole n s b o ≡ none
-    unfolding whole given
-    refused e f = rw (le-leb n (length s) h, e, f)
-
-    pub good : {k : Stack} → b ≡ true → o ≡ some k → whole n s b o ≡ some (record { stack = k; size = n + 2 })
-    unfolding whole given
-    good e f = rw (le-leb n (length s) h, e, f)
 
 module _ (n : ℕ) (k : Stack) (s : List ℕ) where
   behind : (j : ℕ) (r : Record) (b : Bool) (o : Option Stack) → (4 * j ≤ length s → given b o ≡ checked n k r) → whole (4 * j) s b o ≡ passes n k (having j s r)
@@ -46,20 +28,20 @@ module _ (n : ℕ) (k : Stack) (s : List ℕ) where
       go true e = let z : 4 * j + 2 ≡ 2 + 4 * j = omega arith in rw (f (leb-true (4 * j) (length s) e), z)
       go false e = refl
 
-  -- the record with the mark m, which is the number x
-  marked : {m x : ℕ} {z : Option Sized} → m ≡ x → record_of (letters_of x) s ≡ z → passes n k z ≡ passes n k (record_of (letters_of m) s)
-  marked {z = z} e f = rw (e, f)
+  -- the record with the letters l of the mark m, which is x
+  marked : {l : List ℕ} {m x : Mark} {z : Option Sized} → letters_of m ≡ l → m ≡ x → record_of (letters_of x) s ≡ z → passes n k z ≡ passes n k (record_of l s)
+  marked {l} {m} {x} {z} d e f = sym (ap (λ (a : List ℕ). passes n k (record_of a s)) (sym d ∙ ap letters_of e) ∙ ap (passes n k) f)
 
   -- a record of j fields
-  pub arm : (j : ℕ) (r : Record) (b : Bool) (o : Option Stack) {m x : ℕ} → m ≡ x → record_of (letters_of x) s ≡ having j s r → (4 * j ≤ length s → given b o ≡ checked n k r)
-      → whole (4 * j) s b o ≡ passes n k (record_of (letters_of m) s)
-  arm j r b o x e f = behind j r b o f ∙ marked x e
+  pub arm : (j : ℕ) (r : Record) (b : Bool) (o : Option Stack) {a : List ℕ} {m x : Mark} → letters_of m ≡ a → m ≡ x → record_of (letters_of x) s ≡ having j s r → (4 * j ≤ length s → given b o ≡ checked n k r)
+      → whole (4 * j) s b o ≡ passes n k (record_of a s)
+  arm j r b o d x e f = behind j r b o f ∙ marked d x e
 
   -- LD, with c bytes of data
-  pub arm_data : (c : ℕ) (l : List ℕ) (b : Bool) (o : Option Stack) {m x : ℕ} → m ≡ x → record_of (letters_of x) s ≡ data_at 2 l s → c ≡ field_in 2 s
-      → ((d : List ℕ) → length d ≡ c → 12 ≤ length s → given (b && ltb 0 c) o ≡ checked n k (laden l (nths_from 0 2 s) d)) → whole (12 + c) s (b && ltb 0 c) o ≡ passes n k (record_of (letters_of m) s)
+  pub arm_data : (c : ℕ) (l : List ℕ) (b : Bool) (o : Option Stack) {a : List ℕ} {m x : Mark} → letters_of m ≡ a → m ≡ x → record_of (letters_of x) s ≡ data_at 2 l s → c ≡ field_in 2 s
+      → ((d : List ℕ) → length d ≡ c → 12 ≤ length s → given (b && ltb 0 c) o ≡ checked n k (laden l (nths_from 0 2 s) d)) → whole (12 + c) s (b && ltb 0 c) o ≡ passes n k (record_of a s)
   unfolding whole data_at
-  arm_data c l b o x e d f = go (leb (12 + nth 2 s) (length s)) refl ∙ marked x e
+  arm_data c l b o y x e d f = go (leb (12 + nth 2 s) (length s)) refl ∙ marked y x e
     where
       less : length s < 12 + nth 2 s → length s < 12 + c
       less h = by (leb 12 (length s)) refl
@@ -84,7 +66,7 @@ pub given_true : (o : Option Stack) → given true o ≡ o
 unfolding given
 given_true o = refl
 
--- no record has the mark m
-pub no_record : (m : ℕ) (s : List ℕ) → form_of (letters_of m) ≡ none → record_of (letters_of m) s ≡ none
+-- no record has these letters
+pub no_record : (m s : List ℕ) → form_of m ≡ none → record_of m s ≡ none
 unfolding record_of
 no_record m s e = rw e

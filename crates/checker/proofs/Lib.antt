@@ -1,4 +1,3 @@
 pub mod Fields
 pub mod Arms
-pub mod Stacks
 pub mod Walk

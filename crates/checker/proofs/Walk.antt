@@ -16,7 +16,6 @@ use Rattle.rules.specs.Records.{Role, a_statement, a_times, an_expression, an_op
 use Rattle.rules.specs.Decode.{Sized, nth, having, data_at, formed, record_of, also, records_from, decode}
 use Rattle.rules.specs.WellFormed.{Stack, stack, allow, to_expression, to_operand, to_line, complete, given, in_range, counted, makes, checked, checked_all, fresh, well_formed}
 use Rattle.rules.proofs.Forms.{some_field}
-use Rattle.records.specs.Marks.{letters_of}
 use Rattle.checker.specs.Checker.{well_formed_bytes, Pass, sized, passes, next_pass}
 
 -- A record that is read has at least one field, and its bytes are there.
@@ -159,8 +158,8 @@ module _ (n : ℕ) (k : Stack) where
   alone (c ∷ d ∷ s) h = absurd (omega arith)
 
   -- the record at a place, by its letters and the bytes behind them
-  pub next_at : (l : List ℕ) (at m : ℕ) (t : List ℕ) → at + 2 ≤ length l → letters_of m ≡ get_or l at 0 ∷ get_or l (at + 1) 0 ∷ [] → t ≡ drop (at + 2) l
-      → passes n k (record_of (letters_of m) t) ≡ next_pass n k (drop at l)
+  pub next_at : (l : List ℕ) (at : ℕ) (m t : List ℕ) → at + 2 ≤ length l → m ≡ get_or l at 0 ∷ get_or l (at + 1) 0 ∷ [] → t ≡ drop (at + 2) l
+      → passes n k (record_of m t) ≡ next_pass n k (drop at l)
   unfolding next_pass
   next_at l at m t h e f =
       let a : at + 1 ≡ suc at = omega arith in

@@ -1,14 +1,11 @@
 -- What the checker of a listing answers (41), and its parts. RULES 8.5.
-use Rattle.std.specs.Prelude.{Bool, false, List, ℕ, ◌+◌, ◌*◌, leb, length, take, drop, if◌then◌else◌}
+use Rattle.std.specs.Prelude.{Bool, false, List, ℕ, ◌+◌, ◌*◌, leb, length, take, drop, if◌then◌else◌, Some, None}
+use Rattle.std.specs.Prelude as std
 use Rattle.std.proofs.Math.Option.{Option, none, some}
 use Rattle.lexer.specs.Text.{maybe}
 use Rattle.rules.specs.Decode.{Sized, nth, record_of, decode}
 use Rattle.rules.specs.WellFormed.{Stack, given, checked, well_formed}
 use Rattle.checker.specs.declared.Stack.{Stack as Counters}
-use Rattle.checker.specs.declared.Checked.{Checked}
-use Rattle.checker.specs.declared.Checked.TheVariants as checking
-use Rattle.checker.specs.declared.Passed.{Passed}
-use Rattle.checker.specs.declared.Passed.TheVariants as passed
 
 -- A listing is well-formed for a source of length n: its bytes are records, and those are well-formed.
 unfoldable pub well_formed_bytes : List ℕ → ℕ → Bool
@@ -47,10 +44,10 @@ stack_of k = record { place = k.place; floor = k.floor; before = k.before; opera
 abbrev pub height_of : Counters → ℕ
 height_of k = k.before + k.operands + k.above
 
-abbrev pub checked_of : Checked → Option Stack
-checked_of (checking.Good k) = some (stack_of k)
-checked_of checking.Bad = none
+abbrev pub checked_of : std.Option Counters → Option Stack
+checked_of (Some k) = some (stack_of k)
+checked_of None = none
 
-abbrev pub passed_of : Passed → Option Pass
-passed_of (passed.Record k n) = some (record { stack = stack_of k; size = n })
-passed_of passed.Bad = none
+abbrev pub passed_of : std.Option (Counters × ℕ) → Option Pass
+passed_of (Some k) = some (record { stack = stack_of k.0; size = k.1 })
+passed_of None = none

@@ -1,20 +1,18 @@
 // The check of a listing (41), in one pass over its bytes: record by record, with what stands of the statement as three counters.
 #![tactic(auto)]
 
-ghost use Rattle.std.specs.Prelude.{◌≡◌, [], ◌+◌, ◌<◌, drop};
+ghost use Rattle.std.specs.Prelude.{◌≡◌, [], ◌∷◌, ◌+◌, ◌<◌, drop};
 ghost use Rattle.std.proofs.Math.ListN as ListN;
 ghost use Rattle.rules.specs.Records.{a_times};
 ghost use Rattle.rules.specs.Records as records;
 ghost use Rattle.rules.specs.WellFormed as rules;
 ghost use Rattle.rules.specs.Decode.{record_of};
-ghost use Rattle.records.specs.Marks.{letters_of};
 ghost use Rattle.checker.specs.Checker.{well_formed_bytes, field_in, whole, passes, next_pass, height_of, stack_of, checked_of, passed_of};
 
-use records::marks::{
-    IN, LC, LD, LI, LL, LT, OD, OF, OI, OR, OS, OX, PF, ST, VC, VI, VL, VS, joined, marked,
-};
+use records::marks::{Mark, field_at};
 
 // What stands of a statement: expressions, operands above them, expressions above those; and whether a line record has closed it.
+// That the counters are low is a clause and no ghost field: each record may add one, so the bound is the place in the listing.
 #[derive(Clone, Copy)]
 struct Stack {
     place: usize,
@@ -25,212 +23,231 @@ struct Stack {
     closed: bool,
 }
 
-#[derive(Drop)]
-enum Checked {
-    Good(Stack),
-    Bad,
-}
+impl Stack {
+    // place ≤ f ≤ t ≤ the source's length
+    #[tactic(auto, unfolding(rules::specs::WellFormed::spans))]
+    #[inline]
+    fn spans(self, length: usize, f: usize, t: usize) -> bool
+        ensures { result ≡ rules.spans length (stack_of self) f t }
+    {
+        (self.place <= f) & (f <= t) & (t <= length)
+    }
 
-// The stack behind a record that is good, and the number of the record's bytes.
-#[derive(Drop)]
-enum Passed {
-    Record(Stack, usize),
-    Bad,
+    // The n expressions on top become one.
+    #[tactic(auto, unfolding(rules::specs::WellFormed::to_expression, rules::specs::WellFormed::stack, rules::specs::WellFormed::allow))]
+    #[inline]
+    fn to_expression(self, n: usize) -> Option<Stack>
+        requires { height_of self < 0x8000_0000_0000_0000 }
+        ensures { checked_of result ≡ rules.to_expression n (stack_of self) }
+    {
+        if self.operands == 0 {
+            if (n <= self.before) & !self.closed {
+                return Some(Stack {
+                    before: self.before - n + 1,
+                    operands: 0,
+                    closed: false,
+                    ..self
+                });
+            }
+            return None;
+        }
+        if n <= self.above {
+            return Some(Stack {
+                above: self.above - n + 1,
+                closed: false,
+                ..self
+            });
+        }
+        None
+    }
+
+    // They become an operand.
+    #[tactic(auto, unfolding(rules::specs::WellFormed::to_operand, rules::specs::WellFormed::stack, rules::specs::WellFormed::allow))]
+    #[inline]
+    fn to_operand(self, n: usize) -> Option<Stack>
+        requires { height_of self < 0x8000_0000_0000_0000 }
+        ensures { checked_of result ≡ rules.to_operand n (stack_of self) }
+    {
+        if self.operands == 0 {
+            if (n <= self.before) & !self.closed {
+                return Some(Stack {
+                    before: self.before - n,
+                    operands: 1,
+                    above: 0,
+                    closed: false,
+                    ..self
+                });
+            }
+            return None;
+        }
+        if self.above == n {
+            return Some(Stack {
+                operands: self.operands + 1,
+                above: 0,
+                closed: false,
+                ..self
+            });
+        }
+        None
+    }
+
+    // A line record with n expressions and m operands.
+    #[tactic(auto, unfolding(rules::specs::WellFormed::to_line, rules::specs::WellFormed::stack, rules::specs::WellFormed::allow))]
+    #[inline]
+    fn to_line(self, n: usize, m: usize) -> Option<Stack>
+        ensures { checked_of result ≡ rules.to_line n m (stack_of self) }
+    {
+        if (n <= self.before) & (self.operands == m) & (self.above == 0) & !self.closed {
+            return Some(Stack {
+                before: self.before - n,
+                operands: 0,
+                above: 0,
+                closed: true,
+                ..self
+            });
+        }
+        None
+    }
+
+    // `times` behind its content's line record: the expression below is its count.
+    #[tactic(auto, unfolding(rules::specs::WellFormed::makes, rules::specs::WellFormed::stack, rules::specs::WellFormed::allow))]
+    #[inline]
+    fn to_times(self) -> Option<Stack>
+        ensures { checked_of result ≡ rules.makes (stack_of self) a_times [] }
+    {
+        if self.closed & (0 < self.before) {
+            return Some(Stack {
+                before: self.before - 1,
+                operands: 0,
+                above: 0,
+                closed: true,
+                ..self
+            });
+        }
+        None
+    }
+
+    // A line record ends each statement, and nothing is left over.
+    #[tactic(auto, unfolding(rules::specs::WellFormed::complete))]
+    #[inline]
+    fn complete(self) -> bool
+        ensures { result ≡ rules.complete (stack_of self) }
+    {
+        self.closed & (self.before == 0)
+    }
+
+    // A statement begins: the one before is complete, and places rise.
+    #[tactic(auto, unfolding(rules::specs::WellFormed::checked, rules::specs::WellFormed::given, rules::specs::WellFormed::allow, lexer::specs::Text::bytes))]
+    #[inline]
+    fn to_statement(self, length: usize, p: usize) -> Option<Stack>
+        requires { p < 4294967296 }
+        ensures { checked_of result ≡ rules.checked length (stack_of self) (records.ST p) }
+    {
+        if self.complete() & (self.floor <= p) & (p <= length) {
+            return Some(Stack {
+                place: p,
+                floor: p + 1,
+                before: 0,
+                operands: 0,
+                above: 0,
+                closed: false,
+            });
+        }
+        None
+    }
+
+    // One record more, and the number of its bytes: its mark's letters are a and b, and its other bytes are at the head of s. The size of
+    // each is a constant beside its tests: a number that depends on the mark made the check 1.7 times slower.
+    #[inline]
+    fn check(self, a: u8, b: u8, s: &[u8], length: usize) -> Option<(Stack, usize)>
+        requires { height_of self < 0x8000_0000_0000_0000 }
+        ensures { passed_of result ≡ passes length (stack_of self) (record_of (a ∷ b ∷ []) s.now) }
+    {
+        let f = field(s, 0);
+        let t = field(s, 1);
+        let ok = self.spans(length, f, t);
+        let mark = Mark::of(a, b)?;
+        match mark {
+            Mark::ST => whole(s, 4, true, self.to_statement(length, f)),
+            Mark::VC => whole(s, 12, ok, self.to_expression(0)),
+            Mark::VL => whole(s, 8, ok, self.to_expression(0)),
+            Mark::VI => whole(s, 8, ok, self.to_expression(0)),
+            Mark::VS => whole(s, 8, ok, self.to_expression(0)),
+            Mark::PF => whole(s, 12, ok & (field(s, 2) < 2), self.to_expression(1)),
+            Mark::IN => whole(s, 12, ok & (field(s, 2) < 4), self.to_expression(2)),
+            Mark::OR => whole(s, 12, ok & (field(s, 2) < 16), self.to_operand(0)),
+            Mark::OS => whole(s, 12, ok & (field(s, 2) < 4), self.to_operand(0)),
+            Mark::OI => whole(s, 8, ok, self.to_operand(1)),
+            Mark::OF => whole(s, 8, ok, self.to_operand(2)),
+            Mark::OD => {
+                let good = ok & (field(s, 2) < 3) & (field(s, 3) < 5);
+                whole(s, 16, good, self.to_operand(1))
+            }
+            Mark::OX => {
+                let d = field(s, 3);
+                let good = ok & (field(s, 2) < 8) & (d < 2) & (field(s, 4) < 3) & (field(s, 5) < 5);
+                whole(s, 24, good, self.to_operand(d))
+            }
+            Mark::LL => whole(s, 8, ok, self.to_line(0, 0)),
+            Mark::LI => {
+                let n = field(s, 3);
+                let operands = self.spans(length, field(s, 4), field(s, 5));
+                whole(
+                    s,
+                    24,
+                    ok & (field(s, 2) < 99) & (n < 3) & operands,
+                    self.to_line(0, n),
+                )
+            }
+            Mark::LD => {
+                // the count is bounded by the bytes that are there
+                let count = field(s, 2);
+                whole(s, 12 + count, ok & (0 < count), self.to_line(0, 0))
+            }
+            Mark::LC => whole(s, 8, ok, self.to_line(1, 0)),
+            Mark::LT => whole(s, 8, (f < 1) & (t < 1), self.to_times()),
+        }
+    }
+
+    // The record at a place.
+    #[inline]
+    fn check_at(self, listing: &[u8], at: usize, length: usize) -> Option<(Stack, usize)>
+        requires { (at < ListN.length listing.now) × (height_of self < 0x8000_0000_0000_0000) }
+        ensures { passed_of result ≡ next_pass length (stack_of self) (drop at listing.now) }
+    {
+        if listing.len() - at < 2 {
+            return None;
+        }
+        let from = at + 2;
+        self.check(listing[at], listing[at + 1], &listing[from..], length)
+    }
 }
 
 // A field, or 0 where the bytes end before it does.
+#[tactic(auto, unfolding(crate::specs::Checker::field_in), using(records::proofs::Fields::field_nth))]
+#[inline]
 fn field(s: &[u8], i: u8) -> usize
     ensures { (result ≡ field_in i s.now) × (result < 4294967296) }
 {
     let at = 4 * (i as usize);
-    if s.len() < at + 4 {
-        return 0;
-    }
-    joined(s[at], s[at + 1], s[at + 2], s[at + 3])
+    if s.len() < at + 4 { 0 } else { field_at(s, at) }
 }
 
-// place ≤ f ≤ t ≤ the source's length
-fn spans(length: usize, k: Stack, f: usize, t: usize) -> bool
-    ensures { result ≡ rules.spans length (stack_of k) f t }
-{
-    (k.place <= f) & (f <= t) & (t <= length)
-}
-
-// The same statement with other counters.
-fn counted(k: Stack, before: usize, operands: usize, above: usize, closed: bool) -> Stack
-    ensures { stack_of result ≡ rules.stack (stack_of k) before operands above closed }
-{
-    Stack {
-        place: k.place,
-        floor: k.floor,
-        before,
-        operands,
-        above,
-        closed,
-    }
-}
-
-// The n expressions on top become one.
-fn to_expression(n: usize, k: Stack) -> Checked
-    requires { height_of k < 0x8000_0000_0000_0000 }
-    ensures { checked_of result ≡ rules.to_expression n (stack_of k) }
-{
-    if k.operands == 0 {
-        if (n <= k.before) & !k.closed {
-            return Checked::Good(counted(k, k.before - n + 1, 0, k.above, false));
-        }
-        return Checked::Bad;
-    }
-    if n <= k.above {
-        return Checked::Good(counted(k, k.before, k.operands, k.above - n + 1, false));
-    }
-    Checked::Bad
-}
-
-// They become an operand.
-fn to_operand(n: usize, k: Stack) -> Checked
-    requires { height_of k < 0x8000_0000_0000_0000 }
-    ensures { checked_of result ≡ rules.to_operand n (stack_of k) }
-{
-    if k.operands == 0 {
-        if (n <= k.before) & !k.closed {
-            return Checked::Good(counted(k, k.before - n, 1, 0, false));
-        }
-        return Checked::Bad;
-    }
-    if k.above == n {
-        return Checked::Good(counted(k, k.before, k.operands + 1, 0, false));
-    }
-    Checked::Bad
-}
-
-// A line record with n expressions and m operands.
-fn to_line(n: usize, m: usize, k: Stack) -> Checked
-    ensures { checked_of result ≡ rules.to_line n m (stack_of k) }
-{
-    if (n <= k.before) & (k.operands == m) & (k.above == 0) & !k.closed {
-        return Checked::Good(counted(k, k.before - n, 0, 0, true));
-    }
-    Checked::Bad
-}
-
-// `times` behind its content's line record: the expression below is its count.
-fn to_times(k: Stack) -> Checked
-    ensures { checked_of result ≡ rules.makes (stack_of k) a_times [] }
-{
-    if k.closed & (0 < k.before) {
-        return Checked::Good(counted(k, k.before - 1, 0, 0, true));
-    }
-    Checked::Bad
-}
-
-// A line record ends each statement, and nothing is left over.
-fn complete(k: Stack) -> bool
-    ensures { result ≡ rules.complete (stack_of k) }
-{
-    k.closed & (k.before == 0)
-}
-
-// A statement begins: the one before is complete, and places rise.
-fn to_statement(length: usize, k: Stack, p: usize) -> Checked
-    requires { p < 4294967296 }
-    ensures { checked_of result ≡ rules.checked length (stack_of k) (records.ST p) }
-{
-    if complete(k) & (k.floor <= p) & (p <= length) {
-        return Checked::Good(Stack {
-            place: p,
-            floor: p + 1,
-            before: 0,
-            operands: 0,
-            above: 0,
-            closed: false,
-        });
-    }
-    Checked::Bad
-}
-
-// A record of n bytes behind its mark, if there are as many, and if its fields are good.
-fn given(s: &[u8], n: usize, b: bool, c: Checked) -> Passed
-    ensures { passed_of result ≡ whole n s.now b (checked_of c) }
+// A record of n bytes behind its mark, if there are as many, and if its fields are good; `next` is the stack behind it.
+#[tactic(auto, unfolding(crate::specs::Checker::whole, rules::specs::WellFormed::given))]
+#[inline]
+fn whole(s: &[u8], n: usize, good: bool, next: Option<Stack>) -> Option<(Stack, usize)>
+    ensures { passed_of result ≡ whole n s.now good (checked_of next) }
 {
     if s.len() < n {
-        return Passed::Bad;
+        return None;
     }
-    if b {
-        match c {
-            Checked::Good(k) => Passed::Record(k, n + 2),
-            Checked::Bad => Passed::Bad,
-        }
-    } else {
-        Passed::Bad
-    }
-}
-
-// One record more, for a source of that length: its other bytes are at the head of s.
-fn check(mark: usize, s: &[u8], length: usize, k: Stack) -> Passed
-    requires { height_of k < 0x8000_0000_0000_0000 }
-    ensures { passed_of result ≡ passes length (stack_of k) (record_of (letters_of mark) s.now) }
-{
-    let f = field(s, 0);
-    let t = field(s, 1);
-    let ok = spans(length, k, f, t);
-    match mark {
-        ST => given(s, 4, true, to_statement(length, k, f)),
-        VC => given(s, 12, ok, to_expression(0, k)),
-        VL => given(s, 8, ok, to_expression(0, k)),
-        VI => given(s, 8, ok, to_expression(0, k)),
-        VS => given(s, 8, ok, to_expression(0, k)),
-        PF => given(s, 12, ok & (field(s, 2) < 2), to_expression(1, k)),
-        IN => given(s, 12, ok & (field(s, 2) < 4), to_expression(2, k)),
-        OR => given(s, 12, ok & (field(s, 2) < 16), to_operand(0, k)),
-        OS => given(s, 12, ok & (field(s, 2) < 4), to_operand(0, k)),
-        OI => given(s, 8, ok, to_operand(1, k)),
-        OF => given(s, 8, ok, to_operand(2, k)),
-        OD => {
-            let good = ok & (field(s, 2) < 3) & (field(s, 3) < 5);
-            given(s, 16, good, to_operand(1, k))
-        }
-        OX => {
-            let d = field(s, 3);
-            let good = ok & (field(s, 2) < 8) & (d < 2) & (field(s, 4) < 3) & (field(s, 5) < 5);
-            given(s, 24, good, to_operand(d, k))
-        }
-        LL => given(s, 8, ok, to_line(0, 0, k)),
-        LI => {
-            let n = field(s, 3);
-            let operands = spans(length, k, field(s, 4), field(s, 5));
-            given(
-                s,
-                24,
-                ok & (field(s, 2) < 99) & (n < 3) & operands,
-                to_line(0, n, k),
-            )
-        }
-        LD => {
-            // the count is bounded by the bytes that are there
-            let count = field(s, 2);
-            given(s, 12 + count, ok & (0 < count), to_line(0, 0, k))
-        }
-        LC => given(s, 8, ok, to_line(1, 0, k)),
-        LT => given(s, 8, (f < 1) & (t < 1), to_times(k)),
-        _ => Passed::Bad,
-    }
-}
-
-// The record at a place.
-fn check_at(listing: &[u8], at: usize, length: usize, k: Stack) -> Passed
-    requires { (at < ListN.length listing.now) × (height_of k < 0x8000_0000_0000_0000) }
-    ensures { passed_of result ≡ next_pass length (stack_of k) (drop at listing.now) }
-{
-    if listing.len() - at < 2 {
-        return Passed::Bad;
-    }
-    let mark = marked(listing[at], listing[at + 1]);
-    let from = at + 2;
-    check(mark, &listing[from..], length, k)
+    if good { Some((next?, n + 2)) } else { None }
 }
 
 // Whether a listing is well-formed for a source of that length.
+// Not inlined: in one function with the patch and its walks it was slower, a patch by 8 %.
+#[inline(never)]
 pub fn well_formed(listing: &[u8], length: usize) -> bool
     ensures { result ≡ well_formed_bytes listing.now length }
 {
@@ -242,13 +259,14 @@ pub fn well_formed(listing: &[u8], length: usize) -> bool
         above: 0,
         closed: true,
     };
+    // no `for`: a step is a record, whose size is known when it is checked
     let mut at = 0;
     while at < listing.len() {
-        let Passed::Record(next, size) = check_at(listing, at, length, k) else {
+        let Some((next, size)) = k.check_at(listing, at, length) else {
             return false;
         };
         k = next;
-        at = at + size;
+        at += size;
     }
-    complete(k)
+    k.complete()
 }

@@ -16,6 +16,7 @@ use Rattle.rules.specs.Reader.{Answer, done, refused, Reader, Line, ◌>>=◌, w
 use Rattle.rules.specs.Expressions.{operator_of, left_level, right_level, prefix_level, character, atom_of, atom, primary, infixes, expr}
 use Rattle.rules.proofs.Hoare.{Post, holds, fails, Triple, and_then, whether, perhaps, now, returns, refuses, writes, before, arrive_post, ask_ahead, ask_kind, ask_passed, ask_left, here_fails}
 use Rattle.state.specs.declared.Parser.{Parser}
+use Rattle.records.specs.declared.Writer.{Writer}
 use Rattle.state.specs.Views.{line_of, line, Gives}
 
 -- records don't matter here
@@ -104,5 +105,5 @@ left_of_lem : {n : ℕ} {g : Unit {0}} {o : Answer Line (Unit {0})} → Post Any
 left_of_lem (holds r q) = q.few
 left_of_lem fails = tt
 
-pub no_longer : {s : List ℕ} {p q : Parser} (d level : ℕ) {i w : ℕ} {l l' : List ℕ} → Gives line s p (expr d level) i l l' q w tt → length (line_of s q).more ≤ length (line_of s p).more
+pub no_longer : {s : List ℕ} {p q : Parser} (d level : ℕ) {o n : Writer} → Gives line s p (expr d level) o n q tt → length (line_of s q).more ≤ length (line_of s p).more
 no_longer {s} {p} d level h = subst (Left (length (line_of s p).more)) h.reads (left_of_lem ((expr_few d level).law tt (line_of s p) (record { few = le_refl _ })))

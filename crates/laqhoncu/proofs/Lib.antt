@@ -1,3 +1,3 @@
-pub mod Signed
 pub mod Counting
 pub mod Writing
+pub mod Evaluating

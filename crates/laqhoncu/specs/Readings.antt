@@ -1,23 +1,19 @@
 -- The answers of the calls as the numbers that Rust and C take: number, span and registers of each case (RULES 9.1, 11.1).
-use Rattle.std.specs.Prelude.{ℕ, ◌*◌, ◌≤◌, ◌≡◌, true, false, List, eqb, ℤ, pos, length, take, if◌then◌else◌}
+use Rattle.std.specs.Prelude.{ℕ, ◌*◌, ◌≤◌, ◌≡◌, true, false, List, eqb, ℤ, pos, length, take, if◌then◌else◌, Option, Some, None, Result as Answer, Ok, Err}
 use Rattle.lexer.specs.Text.{maybe}
-use Rattle.lexer.specs.Scanned.{end_of_file}
+use Rattle.lexer.specs.declared.Kind.TheVariants as kind
 use Rattle.rules.specs.Statements.{present}
 use Rattle.rules.specs.Calls.{Result, gives, refuses, full_read, full_buffer}
 use Rattle.reader.specs.Calls.{full_answer}
 use Rattle.rules.specs.Evaluate.{evaluate}
 use Rattle.rules.specs.Decode.{decode}
 use Rattle.rules.specs.WellFormed.{well_formed}
-use Rattle.refusals.specs.declared.Refusal.{Refusal}
+use Rattle.refusals.specs.Refusals.{Numbers as Values}
 use Rattle.rules.specs.Reader.{numbers_of}
-use Rattle.reader.specs.declared.FullAnswer.{FullAnswer}
-use Rattle.reader.specs.declared.FullAnswer.TheVariants as answer
-use Rattle.reader.specs.declared.StatementAnswer.{StatementAnswer}
-use Rattle.reader.specs.declared.StatementAnswer.TheVariants as statement
-use Rattle.reader.specs.declared.TokenAnswer.{TokenAnswer}
-use Rattle.reader.specs.declared.TokenAnswer.TheVariants as read
-use Rattle.patch.specs.declared.PatchAnswer.{PatchAnswer}
-use Rattle.patch.specs.declared.PatchAnswer.TheVariants as patched
+use Rattle.lexer.specs.declared.Token.{Token}
+use Rattle.lexer.specs.declared.Cursor.{Cursor}
+use Rattle.reader.specs.declared.Written.{Written as Read}
+use Rattle.patch.specs.declared.Patched.{Patched}
 use Rattle.laqhoncu.specs.declared.Numbers.{Numbers}
 use Rattle.laqhoncu.specs.declared.Patching.{Patching}
 use Rattle.laqhoncu.specs.declared.FullReading.{FullReading}
@@ -31,15 +27,15 @@ use Rattle.laqhoncu.specs.Found.{plain, token_found}
 abbrev pub numbered : ℕ → Numbers
 numbered n = record { number = n; from = 0; to = 0; first = 255; second = 255 }
 
-abbrev pub numbers : Refusal → Numbers
+abbrev pub numbers : Values → Numbers
 numbers r = record { number = r.number; from = r.from; to = r.to; first = r.first; second = r.second }
 
 abbrev pub full : Numbers → ℕ → FullReading
 full refusal length = record { refusal = refusal; length = length }
 
-abbrev pub full_reading : FullAnswer → FullReading
-full_reading (answer.Written n) = full (numbered 0) n
-full_reading (answer.Refused r) = full (numbers r) 0
+abbrev pub full_reading : Answer ℕ Values → FullReading
+full_reading (Ok n) = full (numbered 0) n
+full_reading (Err r) = full (numbers r) 0
 
 -- What holds of the bytes of the buffer l that a full read of the source s has written, as `Writes` says of its answer: they are within
 -- the buffer, at most 18 times the source, and a well-formed listing. At a refusal there are none.
@@ -57,24 +53,24 @@ pub record FullReads (s l l' : List ℕ) (r : FullReading) : Type 0 where
 abbrev pub one : Numbers → ℕ → ℕ → ℕ → StatementReading
 one refusal found length ahead = record { refusal = refusal; found = found; length = length; ahead = ahead }
 
-abbrev pub statement_reading : StatementAnswer → StatementReading
-statement_reading (statement.Written n p) = one (numbered 0) 1 n p
-statement_reading statement.NoneLeft = one (numbered 0) 0 0 0
-statement_reading (statement.Refused r) = one (numbers r) 0 0 0
+abbrev pub statement_reading : Answer (Option Read) Values → StatementReading
+statement_reading (Ok (Some w)) = one (numbered 0) 1 w.length w.ahead
+statement_reading (Ok None) = one (numbered 0) 0 0 0
+statement_reading (Err r) = one (numbers r) 0 0 0
 
 abbrev pub token : Numbers → TokenFound → TokenReading
 token refusal t = record { refusal = refusal; token = t }
 
-abbrev pub token_reading : TokenAnswer → TokenReading
-token_reading (read.Read t c) = token (numbered 0) (token_found t c.pos)
-token_reading (read.Refused r) = token (numbers r) (plain end_of_file 0)
+abbrev pub token_reading : Answer (Token × Cursor) Values → TokenReading
+token_reading (Ok (t, c)) = token (numbered 0) (token_found t c.pos)
+token_reading (Err r) = token (numbers r) (plain kind.EndOfFile 0)
 
 abbrev pub both : Numbers → ℕ → ℕ → Patching
 both refusal source listing = record { refusal = refusal; source = source; listing = listing }
 
-abbrev pub patching : PatchAnswer → Patching
-patching (patched.Written s l) = both (numbered 0) s l
-patching (patched.Refused r) = both (numbers r) 0 0
+abbrev pub patching : Answer Patched Values → Patching
+patching (Ok w) = both (numbered 0) w.source w.listing
+patching (Err r) = both (numbers r) 0 0
 
 abbrev pub value : Numbers → ℤ → Valuation
 value refusal v = record { refusal = refusal; value = v }

@@ -3,15 +3,15 @@
 
 ghost use Rattle.laqhoncu.specs.Counted.{count_from};
 ghost use Rattle.std.specs.Prelude.{◌≡◌, length, drop};
-ghost use Rattle.lexer.specs.Tokens.{token_at, fault_number};
-ghost use Rattle.lexer.specs.Scanned.{next_of, character};
+ghost use Rattle.lexer.specs.Tokens.{token_at};
+ghost use Rattle.lexer.specs.Scanned.{next_of, kind_of_mark, kind_of_fault};
 ghost use Rattle.names.specs.Table.{operations};
 ghost use Rattle.names.specs.Names.{operation_named, found_of, name_of, directive_of};
 ghost use Rattle.rules.specs.Statements.{present};
 ghost use Rattle.rules.specs.Calls as rules;
-ghost use Rattle.rules.specs.Evaluate.{evaluate};
+ghost use Rattle.refusals.specs.Refusals.{numbers as values_of, by_numbers};
 ghost use Rattle.rules.specs.Patch.{patch as patch_call, patch_source, patch_listing};
-ghost use Rattle.operators.specs.Operators.{operator_number, result_of};
+ghost use Rattle.operators.specs.Operators.{result_of};
 ghost use Rattle.reader.specs.Calls.{token_answer, statement_answer};
 ghost use Rattle.patch.specs.Patched.{patch_answer, AsFullRead};
 ghost use Rattle.laqhoncu.specs.Found as spec;
@@ -19,14 +19,14 @@ ghost use Rattle.laqhoncu.specs.Found.{literal_found, token_found, next_found, o
 ghost use Rattle.laqhoncu.specs.Readings as readings;
 ghost use Rattle.laqhoncu.specs.Readings.{full_reading, FullReads, statement_reading, token_reading, patching, valuation, valued};
 
-use lexer::{Cursor, Fault, LiteralKind, Next, PunctuationKind, Token};
-use names::{Directive, Found, Name};
-use operators::{Evaluated, Operator};
-use patch::PatchAnswer;
-use reader::{FullAnswer, StatementAnswer, TokenAnswer};
-use refusals::{ACCEPTED, BEYOND_32_BITS, NO_REGISTER, NO_SUCH_OPERATOR, Refusal, ZERO_DIVISOR};
+use lexer::{BadNumber, Cursor, Fault, Kind, LiteralKind, PunctuationKind, Token};
+use names::{Directive, Name};
+use operators::{EvaluateError, Operator};
+use patch::Patched;
+use reader::Written;
+use refusals::{Reason, Refusal};
 
-// A token as numbers: its kind as in `lexer::Scanned`, a number's value or an invalid token's byte, and the place behind it.
+// A token as numbers: its kind by the number of `lexer::Kind`, a number's value or an invalid token's byte, and the place behind it.
 #[repr(C)]
 #[derive(Clone, Copy)]
 pub struct TokenFound {
@@ -35,88 +35,90 @@ pub struct TokenFound {
     pub end: usize,
 }
 
-fn punctuation(k: PunctuationKind) -> u8
-    ensures { result ≡ character k }
+// Both kinds are the lexer's, so that a `From` can't stand here, as for a fault below.
+fn punctuation(k: PunctuationKind) -> Kind
+    ensures { result ≡ kind_of_mark k }
 {
     match k {
-        PunctuationKind::CloseBracket => b']',
-        PunctuationKind::CloseParenthesis => b')',
-        PunctuationKind::Colon => b':',
-        PunctuationKind::Comma => b',',
-        PunctuationKind::Dollar => b'$',
-        PunctuationKind::Dot => b'.',
-        PunctuationKind::ForwardSlash => b'/',
-        PunctuationKind::Minus => b'-',
-        PunctuationKind::OpenBracket => b'[',
-        PunctuationKind::OpenParenthesis => b'(',
-        PunctuationKind::Plus => b'+',
-        PunctuationKind::Star => b'*',
+        PunctuationKind::CloseBracket => Kind::CloseBracket,
+        PunctuationKind::CloseParenthesis => Kind::CloseParenthesis,
+        PunctuationKind::Colon => Kind::Colon,
+        PunctuationKind::Comma => Kind::Comma,
+        PunctuationKind::Dollar => Kind::Dollar,
+        PunctuationKind::Dot => Kind::Dot,
+        PunctuationKind::ForwardSlash => Kind::ForwardSlash,
+        PunctuationKind::Minus => Kind::Minus,
+        PunctuationKind::OpenBracket => Kind::OpenBracket,
+        PunctuationKind::OpenParenthesis => Kind::OpenParenthesis,
+        PunctuationKind::Plus => Kind::Plus,
+        PunctuationKind::Star => Kind::Star,
     }
 }
 
-fn fault_number(f: Fault) -> u8
-    ensures { result ≡ fault_number f }
+fn fault_kind(f: Fault) -> Kind
+    ensures { result ≡ kind_of_fault f }
 {
     match f {
-        Fault::LargerDigit => lexer::LARGER_DIGIT,
-        Fault::TooLarge => lexer::TOO_LARGE,
+        Fault::LargerDigit => Kind::LargerDigit,
+        Fault::TooLarge => Kind::TooLarge,
     }
 }
 
-fn plain(kind: u8, end: usize) -> TokenFound
-    ensures { result ≡ spec.plain kind end }
-{
-    TokenFound {
-        kind: kind,
-        value: 0,
-        end: end,
+impl TokenFound {
+    fn found(kind: Kind, value: i32, end: usize) -> TokenFound
+        ensures { result ≡ spec.found kind value end }
+    {
+        TokenFound {
+            kind: kind.number(),
+            value,
+            end,
+        }
     }
-}
 
-fn literal_found(k: LiteralKind, end: usize) -> TokenFound
-    ensures { result ≡ literal_found k end }
-{
-    match k {
-        LiteralKind::Number(v) => TokenFound {
-            kind: lexer::NUMBER,
-            value: v,
-            end: end,
-        },
-        LiteralKind::Text(t) => {
-            if t {
-                plain(lexer::CLOSED, end)
-            } else {
-                plain(lexer::UNCLOSED, end)
-            }
+    // A token of a kind that needs no value.
+    fn plain(kind: Kind, end: usize) -> TokenFound
+        ensures { result ≡ spec.plain kind end }
+    {
+        TokenFound::found(kind, 0, end)
+    }
+
+    fn literal(k: LiteralKind, end: usize) -> TokenFound
+        ensures { result ≡ literal_found k end }
+    {
+        match k {
+            LiteralKind::Number(v) => TokenFound::found(Kind::Number, v, end),
+            LiteralKind::Text(true) => TokenFound::plain(Kind::ClosedString, end),
+            LiteralKind::Text(false) => TokenFound::plain(Kind::UnclosedString, end),
         }
     }
 }
 
-fn token_at_end(t: Token, end: usize) -> TokenFound
-    ensures { result ≡ token_found t end }
-{
-    match t {
-        Token::Whitespace(n) => plain(lexer::WHITESPACE, end),
-        Token::Identifier(n) => plain(lexer::IDENTIFIER, end),
-        Token::Literal(n, k) => literal_found(k, end),
-        Token::Punctuation(n, k) => plain(punctuation(k), end),
-        Token::Comment(n) => plain(lexer::COMMENT, end),
-        Token::NewLine(n) => plain(lexer::NEW_LINE, end),
-        Token::EndOfFile(n) => plain(lexer::END_OF_FILE, end),
-        Token::Invalid(n, c) => TokenFound {
-            kind: lexer::INVALID,
-            value: c as i32,
-            end: end,
-        },
+impl From<(Token, Cursor)> for TokenFound {
+    ghost from_gives = { λ read t. t ≡ token_found read.0 read.1.pos };
+
+    fn from(read: (Token, Cursor)) -> TokenFound {
+        let end = read.1.pos;
+        match read.0 {
+            Token::Whitespace(_) => TokenFound::plain(Kind::Whitespace, end),
+            Token::Identifier(_) => TokenFound::plain(Kind::Identifier, end),
+            Token::Literal(_, k) => TokenFound::literal(k, end),
+            Token::Punctuation(_, k) => TokenFound::plain(punctuation(k), end),
+            Token::Comment(_) => TokenFound::plain(Kind::Comment, end),
+            Token::NewLine(_) => TokenFound::plain(Kind::NewLine, end),
+            Token::EndOfFile(_) => TokenFound::plain(Kind::EndOfFile, end),
+            Token::Invalid(_, c) => TokenFound::found(Kind::Invalid, i32::from(c), end),
+        }
     }
 }
 
-fn next_found(next: Next) -> TokenFound
-    ensures { result ≡ next_found next }
-{
-    match next {
-        Next::Token(t, c) => token_at_end(t, c.pos),
-        Next::Refused(f, from, to) => plain(fault_number(f), to),
+impl From<Result<(Token, Cursor), BadNumber>> for TokenFound {
+    ghost from_gives = { λ next t. t ≡ next_found next };
+
+    fn from(next: Result<(Token, Cursor), BadNumber>) -> TokenFound {
+        match next {
+            Ok(read) => read.into(),
+            Err(bad) => TokenFound::plain(fault_kind(bad.fault), bad.to),
+        }
     }
 }
 
@@ -125,65 +127,39 @@ pub fn laqhoncu_token(source: &[u8], place: usize) -> TokenFound
     ensures { result ≡ next_found (next_of place (token_at (drop place source.now))) }
 {
     let cursor = Cursor { pos: place };
-    let next = cursor.next_token(source);
-    next_found(next)
-}
-
-fn operation_byte(f: Found) -> u8
-    ensures { result ≡ operation_byte f }
-{
-    match f {
-        Found::Operation(n) => n,
-        Found::Nothing => 255,
-    }
+    cursor.next_token(source).into()
 }
 
 // The number of the operation that a word names, or 255.
 pub fn laqhoncu_operation(word: &[u8]) -> u8
     ensures { result ≡ operation_byte (found_of (operation_named operations word.now)) }
 {
-    let table = names::table();
-    let found = names::operation(&table, word);
-    operation_byte(found)
-}
-
-fn name_number(x: Name) -> u16
-    ensures { result ≡ name_number x }
-{
-    match x {
-        Name::Register(n) => n as u16,
-        Name::Segment(n) => 256 + n as u16,
-        Name::Size(n) => 512 + n as u16,
-        Name::Other => 65535,
-    }
+    names::operations().operation(word).unwrap_or(255)
 }
 
 // The register that a word names (0 to 15), the segment (256 to 259), the size (512 and 513), or 65535.
 pub fn laqhoncu_name(word: &[u8]) -> u16
     ensures { result ≡ name_number (name_of word.now) }
 {
-    let x = names::name_of(word);
-    name_number(x)
-}
-
-fn directive_byte(d: Directive) -> u8
-    ensures { result ≡ directive_byte d }
-{
-    match d {
-        Directive::Equ => 0,
-        Directive::Db => 1,
-        Directive::Dw => 2,
-        Directive::Times => 3,
-        Directive::Other => 255,
+    match names::name_of(word) {
+        Some(Name::Register(n)) => u16::from(n),
+        Some(Name::Segment(n)) => 256 + u16::from(n),
+        Some(Name::Size(n)) => 512 + u16::from(n),
+        None => 65535,
     }
 }
 
-// The directive that a word names: `equ` 0, `db` 1, `dw` 2, `times` 3, or 255.
+// The directive that a word names: `equ` 0, `db` 1, `dw` 2, `times` 3, or 255. The numbers are the C interface's, not those of the variants.
 pub fn laqhoncu_directive(word: &[u8]) -> u8
     ensures { result ≡ directive_byte (directive_of word.now) }
 {
-    let d = names::directive_of(word);
-    directive_byte(d)
+    match names::directive_of(word) {
+        Some(Directive::Equ) => 0,
+        Some(Directive::Db) => 1,
+        Some(Directive::Dw) => 2,
+        Some(Directive::Times) => 3,
+        None => 255,
+    }
 }
 
 // A refusal as RULES 11.1 numbers it; number 0 is none. A register that is not there is 255.
@@ -205,7 +181,7 @@ pub struct FullReading {
     pub length: u32,
 }
 
-// The same, with the place of the token ahead. `found` is 1 where a statement was read, and else 0.
+// The same, with the place of the token ahead. `found` is 1 where a statement was read, and else 0: C has no Option.
 #[repr(C)]
 #[derive(Clone, Copy)]
 pub struct StatementReading {
@@ -240,83 +216,95 @@ pub struct Patching {
     pub listing: usize,
 }
 
+// No refusal's number, and that of an operator that is none: they are the C interface's alone.
+const ACCEPTED: u32 = 0;
+
+const NO_SUCH_OPERATOR: u32 = 255;
+
+// A number without a place and registers.
 fn numbered(number: u32) -> Numbers
     ensures { result ≡ readings.numbered number }
 {
     Numbers {
-        number: number,
+        number,
         from: 0,
         to: 0,
-        first: NO_REGISTER,
-        second: NO_REGISTER,
+        first: 255,
+        second: 255,
     }
 }
 
-fn numbers_of(r: Refusal) -> Numbers
-    ensures { result ≡ readings.numbers r }
-{
-    Numbers {
-        number: r.number,
-        from: r.from,
-        to: r.to,
-        first: r.first,
-        second: r.second,
+impl From<Refusal> for Numbers {
+    ghost from_gives = { λ r n. n ≡ readings.numbers (values_of r) };
+
+    fn from(r: Refusal) -> Numbers {
+        Numbers {
+            number: r.reason.number(),
+            from: r.from,
+            to: r.to,
+            first: r.registers.first(),
+            second: r.registers.second(),
+        }
     }
 }
 
-fn full_reading(a: FullAnswer) -> FullReading
-    ensures { result ≡ full_reading a }
-{
-    match a {
-        FullAnswer::Written(n) => FullReading {
-            refusal: numbered(ACCEPTED),
-            length: n,
-        },
-        FullAnswer::Refused(r) => FullReading {
-            refusal: numbers_of(r),
-            length: 0,
-        },
+impl From<Result<u32, Refusal>> for FullReading {
+    ghost from_gives = { λ a r. r ≡ full_reading (by_numbers a) };
+
+    fn from(a: Result<u32, Refusal>) -> FullReading {
+        match a {
+            Ok(length) => FullReading {
+                refusal: numbered(ACCEPTED),
+                length,
+            },
+            Err(r) => FullReading {
+                refusal: r.into(),
+                length: 0,
+            },
+        }
     }
 }
 
 // The listing of a source, written into `out` if there is room for all of it.
+#[tactic(auto, using(crate::proofs::Writing::written))]
 pub fn laqhoncu_full_read(source: &[u8], out: &mut [u8]) -> FullReading
     ensures { FullReads source.now out.old out.new result }
 {
-    let a = reader::full_read(source, out);
-    full_reading(a)
+    reader::full_read(source, out).into()
 }
 
 // The same for a short stack: the source is read twice.
+#[tactic(auto, using(crate::proofs::Writing::written))]
 pub fn laqhoncu_full_read_lean(source: &[u8], out: &mut [u8]) -> FullReading
     ensures { FullReads source.now out.old out.new result }
 {
-    let a = reader::full_read_lean(source, out);
-    full_reading(a)
+    reader::full_read_lean(source, out).into()
 }
 
-fn statement_reading(a: StatementAnswer) -> StatementReading
-    ensures { result ≡ statement_reading a }
-{
-    match a {
-        StatementAnswer::Written(n, p) => StatementReading {
-            refusal: numbered(ACCEPTED),
-            found: 1,
-            length: n,
-            ahead: p,
-        },
-        StatementAnswer::NoneLeft => StatementReading {
-            refusal: numbered(ACCEPTED),
-            found: 0,
-            length: 0,
-            ahead: 0,
-        },
-        StatementAnswer::Refused(r) => StatementReading {
-            refusal: numbers_of(r),
-            found: 0,
-            length: 0,
-            ahead: 0,
-        },
+impl From<Result<Option<Written>, Refusal>> for StatementReading {
+    ghost from_gives = { λ a r. r ≡ statement_reading (by_numbers a) };
+
+    fn from(a: Result<Option<Written>, Refusal>) -> StatementReading {
+        match a {
+            Ok(Some(w)) => StatementReading {
+                refusal: numbered(ACCEPTED),
+                found: 1,
+                length: w.length,
+                ahead: w.ahead,
+            },
+            Ok(None) => StatementReading {
+                refusal: numbered(ACCEPTED),
+                found: 0,
+                length: 0,
+                ahead: 0,
+            },
+            Err(r) => StatementReading {
+                refusal: r.into(),
+                found: 0,
+                length: 0,
+                ahead: 0,
+            },
+        }
     }
 }
 
@@ -325,22 +313,23 @@ pub fn laqhoncu_statement_read(source: &[u8], place: usize, out: &mut [u8]) -> S
     ensures answer { result ≡ statement_reading (statement_answer (rules.statement_call present source.now place (length out.old))) }
     ensures buffer { out.new ≡ rules.statement_buffer present source.now place out.old }
 {
-    let a = reader::statement_read(source, place, out);
-    statement_reading(a)
+    reader::statement_read(source, place, out).into()
 }
 
-fn token_reading(a: TokenAnswer) -> TokenReading
-    ensures { result ≡ token_reading a }
-{
-    match a {
-        TokenAnswer::Read(t, c) => TokenReading {
-            refusal: numbered(ACCEPTED),
-            token: token_at_end(t, c.pos),
-        },
-        TokenAnswer::Refused(r) => TokenReading {
-            refusal: numbers_of(r),
-            token: plain(lexer::END_OF_FILE, 0),
-        },
+impl From<Result<(Token, Cursor), Refusal>> for TokenReading {
+    ghost from_gives = { λ a r. r ≡ token_reading (by_numbers a) };
+
+    fn from(a: Result<(Token, Cursor), Refusal>) -> TokenReading {
+        match a {
+            Ok(read) => TokenReading {
+                refusal: numbered(ACCEPTED),
+                token: read.into(),
+            },
+            Err(r) => TokenReading {
+                refusal: r.into(),
+                token: TokenFound::plain(Kind::EndOfFile, 0),
+            },
+        }
     }
 }
 
@@ -348,24 +337,25 @@ fn token_reading(a: TokenAnswer) -> TokenReading
 pub fn laqhoncu_token_read(source: &[u8], place: usize) -> TokenReading
     ensures { result ≡ token_reading (token_answer place (rules.token_call source.now place)) }
 {
-    let a = reader::token_read(source, place);
-    token_reading(a)
+    reader::token_read(source, place).into()
 }
 
-fn patching_of(a: PatchAnswer) -> Patching
-    ensures { result ≡ patching a }
-{
-    match a {
-        PatchAnswer::Written(s, l) => Patching {
-            refusal: numbered(ACCEPTED),
-            source: s,
-            listing: l,
-        },
-        PatchAnswer::Refused(r) => Patching {
-            refusal: numbers_of(r),
-            source: 0,
-            listing: 0,
-        },
+impl From<Result<Patched, Refusal>> for Patching {
+    ghost from_gives = { λ a r. r ≡ patching (by_numbers a) };
+
+    fn from(a: Result<Patched, Refusal>) -> Patching {
+        match a {
+            Ok(w) => Patching {
+                refusal: numbered(ACCEPTED),
+                source: w.source,
+                listing: w.listing,
+            },
+            Err(r) => Patching {
+                refusal: r.into(),
+                source: 0,
+                listing: 0,
+            },
+        }
     }
 }
 
@@ -387,67 +377,53 @@ pub fn laqhoncu_patch(
     ensures demand_3 { AsFullRead patching old.now listing.now place text.now
         source.old source.new out.old out.new result }
 {
-    let a = patch::patch(old, listing, place, text, source, out);
-    patching_of(a)
+    patch::patch(old, listing, place, text, source, out).into()
 }
 
-fn valuation_of(e: Evaluated) -> Valuation
-    ensures { result ≡ valued (result_of e) }
-{
-    match e {
-        Evaluated::Value(v) => Valuation {
-            refusal: numbered(ACCEPTED),
-            value: v,
-        },
-        Evaluated::Beyond => Valuation {
-            refusal: numbered(BEYOND_32_BITS),
-            value: 0,
-        },
-        Evaluated::ZeroDivisor => Valuation {
-            refusal: numbered(ZERO_DIVISOR),
-            value: 0,
-        },
+impl From<Result<i32, EvaluateError>> for Valuation {
+    ghost from_gives = { λ e v. v ≡ valued (result_of e) };
+
+    fn from(e: Result<i32, EvaluateError>) -> Valuation {
+        match e {
+            Ok(value) => Valuation {
+                refusal: numbered(ACCEPTED),
+                value,
+            },
+            Err(EvaluateError::Beyond32Bits) => Valuation {
+                refusal: numbered(Reason::Beyond32Bits.number()),
+                value: 0,
+            },
+            Err(EvaluateError::ZeroDivisor) => Valuation {
+                refusal: numbered(Reason::ZeroDivisor.number()),
+                value: 0,
+            },
+        }
     }
-}
-
-fn evaluated(op: Operator, left: i32, right: i32) -> Valuation
-    ensures { result ≡ valued (evaluate (operator_number op) left right) }
-{
-    let e = op.evaluate(left, right);
-    valuation_of(e)
 }
 
 // The operator of a number (0 `+`, 1 `-`, 2 `*`, 3 `/`) on two numbers. Any other number is refused with 255.
+#[tactic(auto, using(crate::proofs::Evaluating::by_operator, crate::proofs::Evaluating::no_operator))]
 pub fn laqhoncu_evaluate(operator: u8, left: i32, right: i32) -> Valuation
     ensures { result ≡ valuation operator left right }
 {
-    if operator == 0 {
-        return evaluated(Operator::Add, left, right);
-    }
-    if operator == 1 {
-        return evaluated(Operator::Subtract, left, right);
-    }
-    if operator == 2 {
-        return evaluated(Operator::Multiply, left, right);
-    }
-    if operator == 3 {
-        return evaluated(Operator::Divide, left, right);
-    }
-    Valuation {
-        refusal: numbered(NO_SUCH_OPERATOR),
-        value: 0,
+    match Operator::try_from(operator) {
+        Ok(op) => op.evaluate(left, right).into(),
+        Err(_) => Valuation {
+            refusal: numbered(NO_SUCH_OPERATOR),
+            value: 0,
+        },
     }
 }
 
-// How many tokens a source has, whitespace and comments among them.
+// How many tokens a source has, whitespace and comments among them. Each begins where the one before it ends, which a loop says as plainly
+// as an iterator.
 pub fn laqhoncu_count(source: &[u8]) -> usize
     ensures { result ≡ count_from 0 source.now }
 {
-    let mut at: usize = 0;
-    let mut n: usize = 0;
+    let mut at = 0;
+    let mut n = 0;
     while at < source.len() {
-        let t = lexer::scan(source, at);
-        at = t.end;
+        at = lexer::scan(source, at).end;
         n += 1;
     }
     n

@@ -1,5 +1,5 @@
 -- From the numbers of a scan back to the token: nothing is lost, since a number is at most the largest and a stray byte is a byte.
-use Rattle.std.specs.Prelude.{if◌then◌else◌}
+use Rattle.std.specs.Prelude.{Result, Ok, Err, if◌then◌else◌}
 use Prim.Native.Nat.{ℕ, suc, ◌+◌, ◌-◌, ◌≤◌, ◌<◌}
 use mathlib.Core.Path.{◌≡◌, refl, ap, ◌∙◌}
 use mathlib.Core.List.{List, [], ◌∷◌}
@@ -10,7 +10,7 @@ use lib.Dec.{eqb, leb, ltb}
 use lib.IntN.{pos}
 use lib.ListN.{take, drop, get_or}
 use lib.Seq.{get_or-drop}
-use borrow.Author.Tests.{eq-eqb, ne_eqb, leb-true}
+use borrow.Author.Tests.{leb-true}
 use Rattle.lexer.specs.Text.{is, within, any_of, is_blank, is_digit, is_hex_digit, is_letter, run, all, last, digit, value_from}
 use Rattle.lexer.specs.Tokens.{largest, numeral, stray, prefixed, digits, suffix_behind, suffix_last, in_base, suffixed, number_with, number_at, in_quotes, string_after, mark, mark_at, token_with, token_at}
 use Rattle.lexer.specs.Scanned.{scanned_of, token_of, next_of}
@@ -24,8 +24,8 @@ use Rattle.lexer.specs.declared.Fault.TheVariants.{LargerDigit, TooLarge}
 use Rattle.lexer.specs.declared.TokenRead.{TokenRead}
 use Rattle.lexer.specs.declared.TokenRead.TheVariants.{Read, Refused}
 use Rattle.lexer.specs.declared.Scanned.{Scanned}
-use Rattle.lexer.specs.declared.Next.{Next}
-use Rattle.lexer.specs.declared.Next.TheVariants.{Token as token, Refused as refused}
+use Rattle.lexer.specs.declared.Cursor.{Cursor}
+use Rattle.lexer.specs.declared.BadNumber.{BadNumber}
 
 -- what the numbers of a scan keep
 pub data Kept : TokenRead → Type 0 where
@@ -130,36 +130,23 @@ kept_at s at h =
     let first : get_or (drop at s) 0 0 ≡ get_or s at 0 = get_or-drop at s 0 0 ∙ ap (λ k. get_or s k 0) (omega arith) in
     kept (drop at s) (omega arith)
 
--- what the cursor answers, from the numbers
-pub next_from : ℕ → Scanned → Next
-next_from at r =
-    if eqb r.kind 30 then refused LargerDigit at r.end
-    else if eqb r.kind 31 then refused TooLarge at r.end
-    else token (token_of r.kind r.value (r.end - at)) (record { pos = r.end })
+-- what the cursor answers, from the kind
+abbrev pub answered : ℕ → ℕ → Result Token Fault → Result (Token × Cursor) BadNumber
+answered at to (Ok t) = Ok (t, record { pos = to })
+answered at to (Err f) = Err (record { fault = f; from = at; to = to })
 
-module _ (at : ℕ) (r : Scanned) where
-  pub next_larger : r.kind ≡ 30 → refused LargerDigit at r.end ≡ next_from at r
-  unfolding next_from
-  next_larger h = rw (eq-eqb _ 30 h)
-
-  module _ (h : r.kind ≡ 30 → ⊥) where
-    pub next_too_large : r.kind ≡ 31 → refused TooLarge at r.end ≡ next_from at r
-    unfolding next_from
-    next_too_large k = rw (ne_eqb _ 30 h, eq-eqb _ 31 k)
-
-    pub next_token : (r.kind ≡ 31 → ⊥) → {t : Token} → t ≡ token_of r.kind r.value (r.end - at) → token t (record { pos = r.end }) ≡ next_from at r
-    unfolding next_from
-    next_token k e = rw (ne_eqb _ 30 h, ne_eqb _ 31 k, e)
+abbrev pub next_from : ℕ → Scanned → Result (Token × Cursor) BadNumber
+next_from at r = answered at r.end (token_of r.kind r.value (r.end - at))
 
 module _ (at : ℕ) where
   -- a token whose kind computes is itself, but for how its length is reckoned
-  same : (f : ℕ → Token) (n : ℕ) → token (f (at + n - at)) (record { pos = at + n }) ≡ token (f n) (record { pos = at + n })
+  same : (f : ℕ → Token) (n : ℕ) → ◌≡◌ {A = Result (Token × Cursor) BadNumber} (Ok (f (at + n - at), record { pos = at + n })) (Ok (f n, record { pos = at + n }))
   same f n =
       let count : at + n - at ≡ n = omega arith in
       rw count
 
   pub back : {x : TokenRead} → Kept x → next_from at (scanned_of at x) ≡ next_of at x
-  unfolding next_from token_of
+  unfolding token_of
   back (blank {n}) = same Whitespace n
   back (word {n}) = same Identifier n
   back (value {n} {v} h) = rw (mod-eq_of_lt {n = v} {m = 2147483648} (omega arith)) (same (λ k. Literal k (Number (pos v))) n)

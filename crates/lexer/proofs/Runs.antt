@@ -14,8 +14,8 @@ use lib.Seq.{drop-cons}
 use borrow.Author.Tests.{eqb-true, eqb-false, le-leb, lt-leb, leb-true, lt-ltb, le-ltb}
 use Rattle.lexer.specs.Text.{within, is_digit, is_hex_digit, run, all, digit, value_from, open_text}
 use Rattle.lexer.specs.Tokens.{largest}
-use Rattle.lexer.specs.Runs.{are_hex_digits, valued_from}
-use Rattle.lexer.specs.declared.characters.Value.TheVariants.{Fits, Beyond}
+use Rattle.lexer.specs.Runs.{valued_from}
+use Rattle.std.specs.Prelude.{None, Some}
 
 pub both : (a b : Bool) → (a && b) ≡ true → (a ≡ true) × (b ≡ true)
 both true b h = (refl, h)
@@ -81,11 +81,6 @@ module _ (s : List ℕ) (i to : ℕ) where
       let count : to - i ≡ suc (to - (i + 1)) = omega arith in
       rw (drop-cons s i 0 inside, count, add-one)
 
-  -- a hexadecimal one, as all that follow
-  pub hex_more : i < to → to ≤ length s → are_hex_digits s i to ≡ true → (is_hex_digit (get_or s i 0) ≡ true) × (are_hex_digits s (i + 1) to ≡ true)
-  unfolding all
-  hex_more h l e = both (is_hex_digit (get_or s i 0)) (are_hex_digits s (i + 1) to) (rw (digits_more h l) at e)
-
   -- none left
   pub digits_none : to ≤ i → take (to - i) (drop i s) ≡ []
   digits_none h =
@@ -106,17 +101,17 @@ module _ (v base : ℕ) where
   unfolding valued_from value_from all
   valued_more c cs h = rw (lt-ltb (digit c) base h)
 
-  pub valued_stop : (c : ℕ) (cs : List ℕ) → base ≤ digit c → Beyond ≡ valued_from v base (c ∷ cs)
+  pub valued_stop : (c : ℕ) (cs : List ℕ) → base ≤ digit c → None ≡ valued_from v base (c ∷ cs)
   unfolding valued_from value_from all
   valued_stop c cs h = rw (le-ltb (digit c) base h)
 
-  pub valued_large : (cs : List ℕ) → 1 ≤ base → 2147483647 < v → Beyond ≡ valued_from v base cs
+  pub valued_large : (cs : List ℕ) → 1 ≤ base → 2147483647 < v → None ≡ valued_from v base cs
   unfolding valued_from largest
   valued_large cs h l =
       let above : 2147483647 < value_from v base cs = omega (arith, value_ge v base cs h) in
       rw (lt-leb (value_from v base cs) 2147483647 above, and-false)
 
-  pub valued_end : v ≤ 2147483647 → Fits v ≡ valued_from v base []
+  pub valued_end : v ≤ 2147483647 → Some v ≡ valued_from v base []
   unfolding valued_from value_from all largest
   valued_end h = rw (le-leb v 2147483647 h)
 

@@ -13,17 +13,19 @@ use borrow.Author.Tests.{eq-eqb, ne_eqb, eqb-true, lt-ltb, not-true}
 use Rattle.lexer.specs.Text.{is, any_of, is_blank, is_digit, is_hex_digit, is_letter, is_word_part, within, run, all, last, digit, value_from, open_text}
 use Rattle.lexer.specs.Tokens.{largest, numeral, stray, prefixed, digits, suffix_behind, suffix_last, in_base, suffixed, number_with, number_at, in_quotes, string_after, in_comment, mark_at, token_with, token_at, open_tokens}
 use Rattle.lexer.specs.Runs.{valued_from, up_to_one, are_hex_digits, after_zero}
-use Rattle.lexer.specs.Scanned.{scanned_of, is_mark}
+use Rattle.lexer.specs.Scanned.{scanned_of, single}
+use Rattle.lexer.specs.declared.Kind.{Kind}
+use Rattle.lexer.specs.declared.Kind.TheVariants as kind
 use Rattle.lexer.specs.declared.Scanned.{Scanned}
 use Rattle.lexer.specs.declared.Fault.TheVariants.{LargerDigit, TooLarge}
-use Rattle.lexer.specs.declared.Token.TheVariants.{Whitespace, Identifier, Comment, NewLine}
+use Rattle.lexer.specs.declared.Token.TheVariants.{Whitespace, Identifier, Comment}
 use Rattle.lexer.specs.declared.TokenRead.{TokenRead}
 use Rattle.lexer.specs.declared.TokenRead.TheVariants.{Read, Refused}
-use Rattle.lexer.specs.declared.characters.Value.TheVariants.{Fits, Beyond}
+use Rattle.std.specs.Prelude.{Option, None, Some, IfSome}
 use Rattle.lexer.proofs.Branches.{branch, alike, or_split}
 use Rattle.lexer.proofs.Runs.{below, below_all, run_le, run_all, run_ends}
 
-abbrev flat : ℕ → ℕ → ℕ → Scanned
+abbrev flat : Kind → ℕ → ℕ → Scanned
 flat k v e = record { kind = k; value = v; end = e }
 
 -- a place at which a byte is read that is not 0 lies within
@@ -37,7 +39,7 @@ module _ (p : ℕ → Bool) (s : List ℕ) (at end : ℕ) (e : end ≡ at + 1 + 
   behind : end ≡ at + suc (run p (drop (suc at) s))
   behind = e ∙ rw add-one (omega arith)
 
-  pub run_end_is : (k : ℕ) → flat k 0 end ≡ flat k 0 (at + suc (run p (drop (suc at) s)))
+  pub run_end_is : (k : Kind) → flat k 0 end ≡ flat k 0 (at + suc (run p (drop (suc at) s)))
   run_end_is k = ap (flat k 0) behind
 
 -- A string.
@@ -47,13 +49,13 @@ module _ (s : List ℕ) (at end : ℕ) (e : end ≡ at + 1 + run in_quotes (drop
       let place : suc at + run in_quotes (drop (suc at) s) ≡ end = omega (arith, behind in_quotes s at end e) in
       get_or-drop (suc at) s (run in_quotes (drop (suc at) s)) 0 ∙ ap (λ k. get_or s k 0) place
 
-  pub string_closed : get_or s end 0 ≡ 39 → flat 39 0 (end + 1) ≡ scanned_of at (string_after (drop (suc at) s))
+  pub string_closed : get_or s end 0 ≡ 39 → flat kind.ClosedString 0 (end + 1) ≡ scanned_of at (string_after (drop (suc at) s))
   unfolding string_after is
-  string_closed q = rw (eq-eqb _ 39 (quote ∙ q)) (ap (flat 39 0) (omega (arith, behind in_quotes s at end e)))
+  string_closed q = rw (eq-eqb _ 39 (quote ∙ q)) (ap (flat kind.ClosedString 0) (omega (arith, behind in_quotes s at end e)))
 
-  pub string_unclosed : (get_or s end 0 ≡ 39 → ⊥) → flat 34 0 end ≡ scanned_of at (string_after (drop (suc at) s))
+  pub string_unclosed : (get_or s end 0 ≡ 39 → ⊥) → flat kind.UnclosedString 0 end ≡ scanned_of at (string_after (drop (suc at) s))
   unfolding string_after is
-  string_unclosed q = rw (ne_eqb _ 39 (λ r. q (sym quote ∙ r))) (ap (flat 34 0) (omega (arith, behind in_quotes s at end e)))
+  string_unclosed q = rw (ne_eqb _ 39 (λ r. q (sym quote ∙ r))) (ap (flat kind.UnclosedString 0) (omega (arith, behind in_quotes s at end e)))
 
   -- the quote that closes it is there
   pub string_room : get_or s end 0 ≡ 39 → end < length s
@@ -64,7 +66,7 @@ module _ (at c base end : ℕ) (ds : List ℕ) where
   abbrev good : Bool
   good = all (λ d. ltb (digit d) base) ds && leb (value_from 0 base ds) largest
 
-  literal : at ≤ end → (t : Bool) (v w : ℕ) → (if t then Fits v else Beyond) ≡ Fits w → flat 48 w end ≡ scanned_of at (if t then numeral (end - at) v else stray c)
+  literal : at ≤ end → (t : Bool) (v w : ℕ) → (if t then Some v else None) ≡ Some w → flat kind.Number w end ≡ scanned_of at (if t then numeral (end - at) v else stray c)
   unfolding numeral
   literal h true v w q =
       let place : end ≡ at + (end - at) = omega arith in
@@ -72,16 +74,16 @@ module _ (at c base end : ℕ) (ds : List ℕ) where
       cc
   literal h false v w q = let z : ◌≡◌ {A = ℕ} 0 1 = cc in absurd (omega arith)
 
-  no_literal : (n : ℕ) (t : Bool) (v : ℕ) → (if t then Fits v else Beyond) ≡ Beyond → flat 33 c (at + 1) ≡ scanned_of at (if t then numeral n v else stray c)
+  no_literal : (n : ℕ) (t : Bool) (v : ℕ) → (if t then Some v else None) ≡ None → flat kind.Invalid c (at + 1) ≡ scanned_of at (if t then numeral n v else stray c)
   unfolding stray
   no_literal n true v q = let z : ◌≡◌ {A = ℕ} 0 1 = cc in absurd (omega arith)
   no_literal n false v q = refl
 
-  pub literal_fits : at ≤ end → {w : ℕ} → valued_from 0 base ds ≡ Fits w → flat 48 w end ≡ scanned_of at (digits c base ds (end - at))
+  pub literal_fits : at ≤ end → {w : ℕ} → valued_from 0 base ds ≡ Some w → flat kind.Number w end ≡ scanned_of at (digits c base ds (end - at))
   unfolding valued_from digits
   literal_fits h {w} q = literal h good (value_from 0 base ds) w q
 
-  pub literal_beyond : valued_from 0 base ds ≡ Beyond → flat 33 c (at + 1) ≡ scanned_of at (digits c base ds (end - at))
+  pub literal_beyond : valued_from 0 base ds ≡ None → flat kind.Invalid c (at + 1) ≡ scanned_of at (digits c base ds (end - at))
   unfolding valued_from digits
   literal_beyond q = no_literal (end - at) good (value_from 0 base ds) q
 
@@ -90,7 +92,7 @@ module _ (p : ℕ → Bool) (base at end : ℕ) (s : List ℕ) (e : end ≡ at +
   abbrev rest : List ℕ
   rest = drop (at + 2) s
 
-  pub prefix_alone : end ≡ at + 2 → flat 48 0 (at + 1) ≡ scanned_of at (prefixed base p rest)
+  pub prefix_alone : end ≡ at + 2 → flat kind.Number 0 (at + 1) ≡ scanned_of at (prefixed base p rest)
   unfolding prefixed numeral
   prefix_alone q =
       let empty : run p rest ≡ 0 = omega arith in
@@ -114,14 +116,14 @@ module _ (p : ℕ → Bool) (base at end : ℕ) (s : List ℕ) (e : end ≡ at +
     value : ℕ
     value = value_from 0 base (take (run p rest) rest)
 
-    valued : valued_from 0 base (take (end - (at + 2)) rest) ≡ (if leb value largest then Fits value else Beyond)
+    valued : valued_from 0 base (take (end - (at + 2)) rest) ≡ (if leb value largest then Some value else None)
     unfolding valued_from value
     valued = rw (count, run_all p (λ d. ltb (digit d) base) (λ c h. lt-ltb (digit c) base (fit c h).1) (run p rest) rest (omega arith))
 
     long : (eqb (run p rest) 0) ≡ false
     long = ne_eqb (run p rest) 0 (λ q. some (omega arith))
 
-    fits : (t : Bool) (w : ℕ) → (if t then Fits value else Beyond) ≡ Fits w → flat 48 w end ≡ scanned_of at (if t then numeral (2 + run p rest) value else Refused (2 + run p rest) TooLarge)
+    fits : (t : Bool) (w : ℕ) → (if t then Some value else None) ≡ Some w → flat kind.Number w end ≡ scanned_of at (if t then numeral (2 + run p rest) value else Refused (2 + run p rest) TooLarge)
     unfolding numeral
     fits true w q =
         let place : end ≡ at + (2 + run p rest) = omega arith in
@@ -129,17 +131,17 @@ module _ (p : ℕ → Bool) (base at end : ℕ) (s : List ℕ) (e : end ≡ at +
         cc
     fits false w q = let z : ◌≡◌ {A = ℕ} 0 1 = cc in absurd (omega arith)
 
-    beyond : (t : Bool) → (if t then Fits value else Beyond) ≡ Beyond → flat 31 0 end ≡ scanned_of at (if t then numeral (2 + run p rest) value else Refused (2 + run p rest) TooLarge)
+    beyond : (t : Bool) → (if t then Some value else None) ≡ None → flat kind.TooLarge 0 end ≡ scanned_of at (if t then numeral (2 + run p rest) value else Refused (2 + run p rest) TooLarge)
     beyond true q = let z : ◌≡◌ {A = ℕ} 0 1 = cc in absurd (omega arith)
     beyond false q =
         let place : end ≡ at + (2 + run p rest) = omega arith in
         cc
 
-    pub prefix_fits : {w : ℕ} → valued_from 0 base (take (end - (at + 2)) rest) ≡ Fits w → flat 48 w end ≡ scanned_of at (prefixed base p rest)
+    pub prefix_fits : {w : ℕ} → valued_from 0 base (take (end - (at + 2)) rest) ≡ Some w → flat kind.Number w end ≡ scanned_of at (prefixed base p rest)
     unfolding prefixed value
     prefix_fits {w} q = rw long (fits (leb value largest) w (sym valued ∙ q))
 
-    pub prefix_beyond : valued_from 0 base (take (end - (at + 2)) rest) ≡ Beyond → flat 31 0 end ≡ scanned_of at (prefixed base p rest)
+    pub prefix_beyond : valued_from 0 base (take (end - (at + 2)) rest) ≡ None → flat kind.TooLarge 0 end ≡ scanned_of at (prefixed base p rest)
     unfolding prefixed value
     prefix_beyond q = rw long (beyond (leb value largest) (sym valued ∙ q))
 
@@ -265,8 +267,8 @@ module _ (s : List ℕ) (at end : ℕ) (h : at < length s) (d : is_digit (get_or
         unfolding suffix_last
         suffix_none k = plain ∙ rw (suffix_is, is_b_lem, b, is_d_lem, k)
 
-pub larger_scanned : (at end : ℕ) → at < end → flat 30 0 end ≡ scanned_of at (Refused (end - at) LargerDigit)
-larger_scanned at end h = ap (flat 30 0) (omega arith)
+pub larger_scanned : (at end : ℕ) → at < end → flat kind.LargerDigit 0 end ≡ scanned_of at (Refused (end - at) LargerDigit)
+larger_scanned at end h = ap (flat kind.LargerDigit 0) (omega arith)
 
 -- The number that begins with c: what stands behind a leading zero.
 pub number_other : (unprefixed : ℕ → List ℕ → TokenRead) (c : ℕ) (cs : List ℕ) → eqb c 48 ≡ false → number_with unprefixed c cs ≡ unprefixed c cs
@@ -359,9 +361,6 @@ apart a b e c h t = go (a c) (b c) (below_all (λ c. rules_out (a c) (b c)) 256 
 before_letter : ℕ → Bool
 before_letter c = is ";" c || is_blank c || is_digit c
 
-before_mark : ℕ → Bool
-before_mark c = before_letter c || is_letter c || is "'" c || is "\n" c
-
 blank_apart : Apart is_blank (is ";")
 unfolding below open_text
 blank_apart = apart is_blank (is ";") refl
@@ -373,10 +372,6 @@ digit_apart = apart is_digit (λ c. is ";" c || is_blank c) refl
 letter_apart : Apart is_letter before_letter
 unfolding below open_text before_letter
 letter_apart = apart is_letter before_letter refl
-
-mark_apart : Apart is_mark before_mark
-unfolding below open_text before_letter before_mark is_mark
-mark_apart = apart is_mark before_mark refl
 
 -- The token that begins with the byte c.
 module _ (c : ℕ) (cs : List ℕ) where
@@ -396,13 +391,9 @@ module _ (c : ℕ) (cs : List ℕ) where
   unfolding token_with token_at open_text
   token_string e = rw e
 
-  pub token_line : c ≡ 10 → token_at (c ∷ cs) ≡ Read (NewLine 1)
-  unfolding token_with token_at open_text
-  token_line e = rw e
-
-  pub token_other : is_blank c ≡ false → is_letter c ≡ false → is_digit c ≡ false → (c ≡ 59 → ⊥) → (c ≡ 39 → ⊥) → (c ≡ 10 → ⊥) → token_at (c ∷ cs) ≡ mark_at c
+  pub token_other : is_blank c ≡ false → is_letter c ≡ false → is_digit c ≡ false → (c ≡ 59 → ⊥) → (c ≡ 39 → ⊥) → is "\n" c ≡ false → token_at (c ∷ cs) ≡ mark_at c
   unfolding token_with token_at is
-  token_other b l d s q n = rw (ne_eqb c 59 s, b, d, l, ne_eqb c 39 q, ne_eqb c 10 n)
+  token_other b l d s q n = rw (ne_eqb c 59 s, b, d, l, ne_eqb c 39 q, n)
 
   module _ (h : c < 256) where
     pub token_blank : is_blank c ≡ true → token_at (c ∷ cs) ≡ Read (Whitespace (suc (run is_blank cs)))
@@ -432,62 +423,52 @@ module _ (c : ℕ) (cs : List ℕ) where
     unfolding token_at
     token_word e = word_with is_word_part suffixed e
 
-    pub token_mark : is_mark c ≡ true → token_at (c ∷ cs) ≡ mark_at c
-    unfolding token_with token_at Apart before_letter before_mark
-    token_mark e =
-        let n = or_split (is ";" c || is_blank c || is_digit c || is_letter c || is "'" c) (is "\n" c) (mark_apart c h e) in
-        let q = or_split (is ";" c || is_blank c || is_digit c || is_letter c) (is "'" c) n.0 in
-        let l = or_split (is ";" c || is_blank c || is_digit c) (is_letter c) q.0 in
-        let d = or_split (is ";" c || is_blank c) (is_digit c) l.0 in
-        let b = or_split (is ";" c) (is_blank c) d.0 in
-        rw (b.0, b.1, d.1, l.1, q.1, n.1)
-
 -- what is scanned at a place is that of the token whose first byte stands there
 pub scanned_at : (s : List ℕ) (at : ℕ) {t : TokenRead} → at < length s → token_at (get_or s at 0 ∷ drop (suc at) s) ≡ t → scanned_of at t ≡ scanned_of at (token_at (drop at s))
 scanned_at s at h e = ap (scanned_of at) (sym e ∙ ap token_at (sym (drop-cons s at 0 h)))
 
-pub scanned_end : (s : List ℕ) (at : ℕ) → length s ≤ at → flat 0 0 at ≡ scanned_of at (token_at (drop at s))
+pub scanned_end : (s : List ℕ) (at : ℕ) → length s ≤ at → flat kind.EndOfFile 0 at ≡ scanned_of at (token_at (drop at s))
 unfolding token_with token_at
-scanned_end s at h = rw (drop_of_length-le s h) (ap (flat 0 0) (omega arith))
+scanned_end s at h = rw (drop_of_length-le s h) (ap (flat kind.EndOfFile 0) (omega arith))
 
--- a line feed's kind is itself, as a punctuation's is
-pub line_scanned : (at c : ℕ) → c ≡ 10 → flat c 0 (at + 1) ≡ scanned_of at (Read (NewLine 1))
-line_scanned at c e = ap (λ k. flat k 0 (at + 1)) e
+-- What a token of one byte is: tried at each byte that is one.
+module _ (at : ℕ) (cs : List ℕ) (c : ℕ) where
+  abbrev Is : ℕ → Kind → Type 0
+  Is b k = flat k 0 (at + 1) ≡ scanned_of at (token_at (b ∷ cs))
 
--- the characters of punctuations are a range and four more
-pub marks_are : (c : ℕ) → c < 256 → ((leb 40 c && leb c 47) || eqb c 36 || eqb c 58 || eqb c 91 || eqb c 93) ≡ is_mark c
-unfolding below is_mark open_text
-marks_are c h = same _ _ (below_all (λ c. beq ((leb 40 c && leb c 47) || eqb c 36 || eqb c 58 || eqb c 91 || eqb c 93) (any_of ":,$.[]()+-*/" c)) 256 refl c h)
+  single_or : (a : ℕ) (x : Kind) (u : Option Kind) → Is a x → IfSome u (Is c) → IfSome (if eqb c a then Some x else u) (Is c)
+  single_or a x u e r = go (eqb c a) refl
+    where
+      go : (b : Bool) → eqb c a ≡ b → IfSome (if b then Some x else u) (Is c)
+      go true q = rw (eqb-true c a q) e
+      go false q = r
 
--- A punctuation is its own character; a byte that is none is a token of its own.
-data Marked (at c : ℕ) (b : Bool) (t : TokenRead) : Type 0 where
-  marked : (b ≡ true → flat c 0 (at + 1) ≡ scanned_of at t) → (b ≡ false → t ≡ stray c) → Marked at c b t
+  pub single_scanned : IfSome (single c) (Is c)
+  unfolding single token_with token_at open_tokens
+  single_scanned =
+      single_or 10 _ _ refl (single_or 58 _ _ refl (single_or 44 _ _ refl (single_or 36 _ _ refl (single_or 46 _ _ refl (single_or 91 _ _ refl (single_or 93 _ _ refl
+      (single_or 40 _ _ refl (single_or 41 _ _ refl (single_or 43 _ _ refl (single_or 45 _ _ refl (single_or 42 _ _ refl (single_or 47 _ _ refl tt))))))))))))
 
-no_mark : (at c : ℕ) → Marked at c false (stray c)
-no_mark at c = marked (λ q. let z : ◌≡◌ {A = ℕ} 0 1 = cc in absurd (omega arith)) (λ q. refl)
+-- A byte that is none, and begins no other token, is a token of its own.
+none_else : (b : Bool) (x : Kind) {u : Option Kind} → (if b then Some x else u) ≡ None → (b ≡ false) × (u ≡ None)
+none_else true x n = let z : ◌≡◌ {A = ℕ} 0 1 = cc in absurd (omega arith)
+none_else false x n = (refl, n)
 
-mark_or : {at c : ℕ} {b : Bool} {u : TokenRead} (a : ℕ) (t : TokenRead) → flat a 0 (at + 1) ≡ scanned_of at t → Marked at c b u → Marked at c (eqb c a || b) (if eqb c a then t else u)
-mark_or {at} {c} {b} {u} a t e m = go (eqb c a) refl m
-  where
-    go : (k : Bool) → eqb c a ≡ k → Marked at c b u → Marked at c (k || b) (if k then t else u)
-    go true q m = marked (λ r. rw (eqb-true c a q) e) (λ r. let z : ◌≡◌ {A = ℕ} 0 1 = cc in absurd (omega arith))
-    go false q m = m
+other_or : (c : ℕ) (b : Bool) (x : Kind) {u : Option Kind} (t : TokenRead) {r : TokenRead} → (u ≡ None → r ≡ stray c) → (if b then Some x else u) ≡ None → (if b then t else r) ≡ stray c
+other_or c b x t e n = let (f, o) = none_else b x n in rw f (e o)
 
-marks : (at c : ℕ) → Marked at c (is_mark c) (mark_at c)
-unfolding is_mark open_tokens
-marks at c =
-    mark_or 58 _ refl (mark_or 44 _ refl (mark_or 36 _ refl (mark_or 46 _ refl (mark_or 91 _ refl (mark_or 93 _ refl
-    (mark_or 40 _ refl (mark_or 41 _ refl (mark_or 43 _ refl (mark_or 45 _ refl (mark_or 42 _ refl (mark_or 47 _ refl (no_mark at c))))))))))))
+module _ (c : ℕ) (h : single c ≡ None) where
+  pub not_line : is "\n" c ≡ false
+  unfolding single
+  not_line = (none_else (is "\n" c) _ h).0
 
-pub mark_scanned : (at c : ℕ) → is_mark c ≡ true → flat c 0 (at + 1) ≡ scanned_of at (mark_at c)
-mark_scanned at c h = go (marks at c)
-  where
-    go : Marked at c (is_mark c) (mark_at c) → flat c 0 (at + 1) ≡ scanned_of at (mark_at c)
-    go (marked f g) = f h
+  other_mark : mark_at c ≡ stray c
+  unfolding single mark_at
+  other_mark =
+      other_or c (is ":" c) _ _ (other_or c (is "," c) _ _ (other_or c (is "$" c) _ _ (other_or c (is "." c) _ _ (other_or c (is "[" c) _ _ (other_or c (is "]" c) _ _
+      (other_or c (is "(" c) _ _ (other_or c (is ")" c) _ _ (other_or c (is "+" c) _ _ (other_or c (is "-" c) _ _ (other_or c (is "*" c) _ _ (other_or c (is "/" c) _ _
+      (λ n. refl)))))))))))) (none_else (is "\n" c) _ h).1
 
-pub stray_scanned : (at c : ℕ) → is_mark c ≡ false → flat 33 c (at + 1) ≡ scanned_of at (mark_at c)
-unfolding stray
-stray_scanned at c h = go (marks at c)
-  where
-    go : Marked at c (is_mark c) (mark_at c) → flat 33 c (at + 1) ≡ scanned_of at (mark_at c)
-    go (marked f g) = ap (scanned_of at) (sym (g h))
+  pub stray_scanned : (at : ℕ) → flat kind.Invalid c (at + 1) ≡ scanned_of at (mark_at c)
+  unfolding stray
+  stray_scanned at = ap (scanned_of at) (sym other_mark)

@@ -1,7 +1,7 @@
--- A token as numbers, which `scan` gives, and the cursor's answer, which has the token itself.
-use Rattle.std.specs.Prelude.{Bool, true, false, ℕ, ◌+◌, ◌%◌, eqb, pos, nat_abs, if◌then◌else◌}
+-- A token by its kind, which `scan` gives, and the cursor's answer, which has the token itself.
+use Rattle.std.specs.Prelude.{true, false, ℕ, ◌+◌, ◌%◌, pos, nat_abs, Option, None, Some, Result, Ok, Err, if◌then◌else◌}
 use Prim.Native.Char.{code}
-use Rattle.lexer.specs.Text.{any_of}
+use Rattle.lexer.specs.Text.{is}
 use Rattle.lexer.specs.Tokens.{length_of, size_of, fault_number}
 use Rattle.lexer.specs.declared.LiteralKind.TheVariants.{Number, Text}
 use Rattle.lexer.specs.declared.PunctuationKind.{PunctuationKind}
@@ -10,64 +10,70 @@ use Rattle.lexer.specs.declared.Token.{Token}
 use Rattle.lexer.specs.declared.Token.TheVariants.{Whitespace, Identifier, Literal, Punctuation, Comment, NewLine, EndOfFile, Invalid}
 use Rattle.lexer.specs.declared.TokenRead.{TokenRead}
 use Rattle.lexer.specs.declared.TokenRead.TheVariants.{Read, Refused}
+use Rattle.lexer.specs.declared.Fault.{Fault}
+use Rattle.lexer.specs.declared.Fault.TheVariants.{LargerDigit, TooLarge}
+use Rattle.lexer.specs.declared.Kind.{Kind}
+use Rattle.lexer.specs.declared.Kind.TheVariants as kind
 use Rattle.lexer.specs.declared.Scanned.{Scanned}
-use Rattle.lexer.specs.declared.Next.{Next}
-use Rattle.lexer.specs.declared.Next.TheVariants.{Token as token, Refused as refused}
+use Rattle.lexer.specs.declared.Cursor.{Cursor}
+use Rattle.lexer.specs.declared.BadNumber.{BadNumber}
 
--- A kind is a byte: that of a punctuation is its character, that of a refused number the refusal's number.
-abbrev pub end_of_file : ℕ
-end_of_file = 0
+-- The number of a kind: that of a punctuation is its character, that of a refused number the refusal's number.
+abbrev pub number_of : Kind → ℕ
+number_of kind.EndOfFile = 0
+number_of kind.NewLine = code "\n"
+number_of kind.LargerDigit = fault_number LargerDigit
+number_of kind.TooLarge = fault_number TooLarge
+number_of kind.Whitespace = code " "
+number_of kind.Invalid = code "!"
+number_of kind.UnclosedString = code "\""
+number_of kind.Dollar = code "$"
+number_of kind.ClosedString = code "'"
+number_of kind.OpenParenthesis = code "("
+number_of kind.CloseParenthesis = code ")"
+number_of kind.Star = code "*"
+number_of kind.Plus = code "+"
+number_of kind.Comma = code ","
+number_of kind.Minus = code "-"
+number_of kind.Dot = code "."
+number_of kind.ForwardSlash = code "/"
+number_of kind.Number = code "0"
+number_of kind.Colon = code ":"
+number_of kind.Comment = code ";"
+number_of kind.OpenBracket = code "["
+number_of kind.CloseBracket = code "]"
+number_of kind.Identifier = code "a"
 
-abbrev pub new_line : ℕ
-new_line = code "\n"
+abbrev pub kind_of_mark : PunctuationKind → Kind
+kind_of_mark CloseBracket = kind.CloseBracket
+kind_of_mark CloseParenthesis = kind.CloseParenthesis
+kind_of_mark Colon = kind.Colon
+kind_of_mark Comma = kind.Comma
+kind_of_mark Dollar = kind.Dollar
+kind_of_mark Dot = kind.Dot
+kind_of_mark ForwardSlash = kind.ForwardSlash
+kind_of_mark Minus = kind.Minus
+kind_of_mark OpenBracket = kind.OpenBracket
+kind_of_mark OpenParenthesis = kind.OpenParenthesis
+kind_of_mark Plus = kind.Plus
+kind_of_mark Star = kind.Star
 
-abbrev pub whitespace : ℕ
-whitespace = code " "
+abbrev pub kind_of_fault : Fault → Kind
+kind_of_fault LargerDigit = kind.LargerDigit
+kind_of_fault TooLarge = kind.TooLarge
 
-abbrev pub comment : ℕ
-comment = code ";"
-
-abbrev pub identifier : ℕ
-identifier = code "a"
-
-abbrev pub number : ℕ
-number = code "0"
-
-abbrev pub closed : ℕ
-closed = code "'"
-
-abbrev pub unclosed : ℕ
-unclosed = code "\""
-
-abbrev pub invalid : ℕ
-invalid = code "!"
-
-abbrev pub character : PunctuationKind → ℕ
-character CloseBracket = code "]"
-character CloseParenthesis = code ")"
-character Colon = code ":"
-character Comma = code ","
-character Dollar = code "$"
-character Dot = code "."
-character ForwardSlash = code "/"
-character Minus = code "-"
-character OpenBracket = code "["
-character OpenParenthesis = code "("
-character Plus = code "+"
-character Star = code "*"
-
-abbrev pub kind_of : TokenRead → ℕ
-kind_of (Read (Whitespace n)) = whitespace
-kind_of (Read (Identifier n)) = identifier
-kind_of (Read (Literal n (Number v))) = number
-kind_of (Read (Literal n (Text true))) = closed
-kind_of (Read (Literal n (Text false))) = unclosed
-kind_of (Read (Punctuation n k)) = character k
-kind_of (Read (Comment n)) = comment
-kind_of (Read (NewLine n)) = new_line
-kind_of (Read (EndOfFile n)) = end_of_file
-kind_of (Read (Invalid n c)) = invalid
-kind_of (Refused n f) = fault_number f
+abbrev pub kind_of : TokenRead → Kind
+kind_of (Read (Whitespace n)) = kind.Whitespace
+kind_of (Read (Identifier n)) = kind.Identifier
+kind_of (Read (Literal n (Number v))) = kind.Number
+kind_of (Read (Literal n (Text true))) = kind.ClosedString
+kind_of (Read (Literal n (Text false))) = kind.UnclosedString
+kind_of (Read (Punctuation n k)) = kind_of_mark k
+kind_of (Read (Comment n)) = kind.Comment
+kind_of (Read (NewLine n)) = kind.NewLine
+kind_of (Read (EndOfFile n)) = kind.EndOfFile
+kind_of (Read (Invalid n c)) = kind.Invalid
+kind_of (Refused n f) = kind_of_fault f
 
 -- A number's value, the byte of an invalid token, and else 0.
 abbrev pub value_of : TokenRead → ℕ
@@ -82,40 +88,55 @@ value_of (Read (EndOfFile n)) = 0
 value_of (Read (Invalid n c)) = c
 value_of (Refused n f) = 0
 
--- what is read at a place, as numbers, and the place behind it
+-- what is read at a place, by its kind, and the place behind it
 abbrev pub scanned_of : ℕ → TokenRead → Scanned
 scanned_of at t = record { kind = kind_of t; value = value_of t; end = at + size_of t }
 
 -- what the cursor at a place answers: the token and the cursor behind it, or the refusal and its span
-abbrev pub next_of : ℕ → TokenRead → Next
-next_of at (Read t) = token t (record { pos = at + length_of t })
-next_of at (Refused n f) = refused f at (at + n)
+abbrev pub next_of : ℕ → TokenRead → Result (Token × Cursor) BadNumber
+next_of at (Read t) = Ok (t, record { pos = at + length_of t })
+next_of at (Refused n f) = Err (record { fault = f; from = at; to = at + n })
 
--- the characters of punctuations
-unfoldable pub is_mark : ℕ → Bool
-is_mark c = any_of ":,$.[]()+-*/" c
+-- the kind of a token that is the byte alone: a line feed or a punctuation
+unfoldable pub single : ℕ → Option Kind
+single c =
+    if is "\n" c then Some kind.NewLine
+    else if is ":" c then Some kind.Colon
+    else if is "," c then Some kind.Comma
+    else if is "$" c then Some kind.Dollar
+    else if is "." c then Some kind.Dot
+    else if is "[" c then Some kind.OpenBracket
+    else if is "]" c then Some kind.CloseBracket
+    else if is "(" c then Some kind.OpenParenthesis
+    else if is ")" c then Some kind.CloseParenthesis
+    else if is "+" c then Some kind.Plus
+    else if is "-" c then Some kind.Minus
+    else if is "*" c then Some kind.Star
+    else if is "/" c then Some kind.ForwardSlash
+    else None
 
--- the token of n bytes that a kind and a value stand for
-unfoldable pub token_of : ℕ → ℕ → ℕ → Token
-token_of kind value n =
-    if eqb kind end_of_file then EndOfFile n
-    else if eqb kind new_line then NewLine n
-    else if eqb kind whitespace then Whitespace n
-    else if eqb kind comment then Comment n
-    else if eqb kind identifier then Identifier n
-    else if eqb kind number then Literal n (Number (pos (value % 2147483648)))
-    else if eqb kind closed then Literal n (Text true)
-    else if eqb kind unclosed then Literal n (Text false)
-    else if eqb kind (character CloseBracket) then Punctuation n CloseBracket
-    else if eqb kind (character CloseParenthesis) then Punctuation n CloseParenthesis
-    else if eqb kind (character Colon) then Punctuation n Colon
-    else if eqb kind (character Comma) then Punctuation n Comma
-    else if eqb kind (character Dollar) then Punctuation n Dollar
-    else if eqb kind (character Dot) then Punctuation n Dot
-    else if eqb kind (character ForwardSlash) then Punctuation n ForwardSlash
-    else if eqb kind (character Minus) then Punctuation n Minus
-    else if eqb kind (character OpenBracket) then Punctuation n OpenBracket
-    else if eqb kind (character OpenParenthesis) then Punctuation n OpenParenthesis
-    else if eqb kind (character Plus) then Punctuation n Plus
-    else if eqb kind (character Star) then Punctuation n Star
-    else Invalid n (value % 256)
+-- the token of n bytes that a kind and a value stand for, or why it is refused
+unfoldable pub token_of : Kind → ℕ → ℕ → Result Token Fault
+token_of kind.EndOfFile value n = Ok (EndOfFile n)
+token_of kind.NewLine value n = Ok (NewLine n)
+token_of kind.LargerDigit value n = Err LargerDigit
+token_of kind.TooLarge value n = Err TooLarge
+token_of kind.Whitespace value n = Ok (Whitespace n)
+token_of kind.Invalid value n = Ok (Invalid n (value % 256))
+token_of kind.UnclosedString value n = Ok (Literal n (Text false))
+token_of kind.Dollar value n = Ok (Punctuation n Dollar)
+token_of kind.ClosedString value n = Ok (Literal n (Text true))
+token_of kind.OpenParenthesis value n = Ok (Punctuation n OpenParenthesis)
+token_of kind.CloseParenthesis value n = Ok (Punctuation n CloseParenthesis)
+token_of kind.Star value n = Ok (Punctuation n Star)
+token_of kind.Plus value n = Ok (Punctuation n Plus)
+token_of kind.Comma value n = Ok (Punctuation n Comma)
+token_of kind.Minus value n = Ok (Punctuation n Minus)
+token_of kind.Dot value n = Ok (Punctuation n Dot)
+token_of kind.ForwardSlash value n = Ok (Punctuation n ForwardSlash)
+token_of kind.Number value n = Ok (Literal n (Number (pos (value % 2147483648))))
+token_of kind.Colon value n = Ok (Punctuation n Colon)
+token_of kind.Comment value n = Ok (Comment n)
+token_of kind.OpenBracket value n = Ok (Punctuation n OpenBracket)
+token_of kind.CloseBracket value n = Ok (Punctuation n CloseBracket)
+token_of kind.Identifier value n = Ok (Identifier n)

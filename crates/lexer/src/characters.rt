@@ -1,42 +1,49 @@
 // Letters and numbers: classes of bytes, runs of a class, and the number that digits write.
-ghost use Rattle.std.specs.Prelude.{◌≡◌, true, ◌||◌, ◌+◌, ◌-◌, ◌≤◌, ◌<◌, eqb, length, take, drop, get_or};
-ghost use Rattle.lexer.specs.Text.{within, is_blank, is_digit, is_hex_digit, is_letter, is_word_part, digit, run};
-ghost use Rattle.lexer.specs.Runs.{belongs, are_hex_digits, valued_from};
+ghost use Rattle.std.specs.Prelude.{◌≡◌, Bool, true, ℕ, ◌||◌, ◌+◌, ◌-◌, ◌≤◌, ◌<◌, eqb, length, take, drop, get_or};
+ghost use Rattle.lexer.specs.Text.{within, is_blank, is_digit, is_hex_digit, is_letter, is_word_part, digit, run, all};
+ghost use Rattle.lexer.specs.Runs.{up_to_one, valued_from};
+ghost use Rattle.lexer.specs.Tokens.{in_quotes, in_comment};
 
+#[tactic(auto, unfolding(crate::specs::Text::is_blank, crate::specs::Text::any_of, crate::specs::Text::among, crate::specs::Text::bytes))]
 pub fn is_whitespace(c: u8) -> bool
     ensures { result ≡ is_blank c }
 {
-    (c == b' ') | (c == b'\t') | (c == b'\r')
+    matches!(c, b' ' | b'\t' | b'\r')
 }
 
+#[tactic(auto, unfolding(crate::specs::Text::within))]
 pub fn is_binary_digit(c: u8) -> bool
     ensures { result ≡ within "0" "1" c }
 {
-    (b'0' <= c) & (c <= b'1')
+    matches!(c, b'0'..=b'1')
 }
 
+#[tactic(auto, unfolding(crate::specs::Text::within))]
 pub fn is_octal_digit(c: u8) -> bool
     ensures { result ≡ within "0" "7" c }
 {
-    (b'0' <= c) & (c <= b'7')
+    matches!(c, b'0'..=b'7')
 }
 
+#[tactic(auto, unfolding(crate::specs::Text::is_digit, crate::specs::Text::within))]
 pub fn is_decimal_digit(c: u8) -> bool
     ensures { result ≡ is_digit c }
 {
-    (b'0' <= c) & (c <= b'9')
+    c.is_ascii_digit()
 }
 
+#[tactic(auto, unfolding(crate::specs::Text::is_hex_digit, crate::specs::Text::is_digit, crate::specs::Text::within))]
 pub fn is_hexadecimal_digit(c: u8) -> bool
     ensures { result ≡ is_hex_digit c }
 {
-    ((b'0' <= c) & (c <= b'9')) | ((b'a' <= c) & (c <= b'f')) | ((b'A' <= c) & (c <= b'F'))
+    c.is_ascii_hexdigit()
 }
 
+#[tactic(auto, unfolding(crate::specs::Text::is_letter, crate::specs::Text::is, crate::specs::Text::within))]
 pub fn is_identifier_first(c: u8) -> bool
     ensures { result ≡ is_letter c }
 {
-    ((b'a' <= c) & (c <= b'z')) | ((b'A' <= c) & (c <= b'Z')) | (c == b'_')
+    c.is_ascii_alphabetic() | (c == b'_')
 }
 
 // A letter is asked for first, since most of a name is letters.
@@ -50,6 +57,27 @@ pub fn is_identifier(c: u8) -> bool
     }
 }
 
+// A binary digit, or a byte before them.
+pub fn is_at_most_one(c: u8) -> bool
+    ensures { result ≡ up_to_one c }
+{
+    c <= b'1'
+}
+
+#[tactic(auto, unfolding(crate::specs::Tokens::in_quotes, crate::specs::Text::is))]
+pub fn is_quoted(c: u8) -> bool
+    ensures { result ≡ in_quotes c }
+{
+    !((c == b'\'') | (c == b'\n'))
+}
+
+#[tactic(auto, unfolding(crate::specs::Tokens::in_comment, crate::specs::Text::is))]
+pub fn is_remark(c: u8) -> bool
+    ensures { result ≡ in_comment c }
+{
+    c != b'\n'
+}
+
 // A letter, small or capital.
 pub fn is_letter(c: u8, small: u8, capital: u8) -> bool
     ensures { result ≡ (eqb c small || eqb c capital) }
@@ -61,54 +89,22 @@ pub fn is_letter(c: u8, small: u8, capital: u8) -> bool
 pub fn char_at(source: &[u8], index: usize) -> u8
     ensures { result ≡ get_or source.now index 0 }
 {
-    if index < source.len() {
-        source[index]
-    } else {
-        0
-    }
+    source.get(index).copied().unwrap_or(0)
 }
 
-// The classes that runs are made of, beside the digits of a base, whose class is the base. Numbers, not an enum: the loop is then
-// made anew for each class that is known where it is called.
-pub const BLANK: u8 = b' ';
-
-pub const WORD: u8 = b'a';
-
-pub const UP_TO_ONE: u8 = b'1';
-
-pub const QUOTED: u8 = b'\'';
-
-pub const REMARK: u8 = b';';
-
-pub fn in_class(class: u8, c: u8) -> bool
-    ensures { result ≡ belongs class c }
+// The place behind the run of bytes of a class that begins at `from`. It is made anew for each class.
+#[inline]
+pub fn run_end<F: Fn(u8) -> bool>(source: &[u8], from: usize, belongs: F) -> usize
+    requires { F.IsAlwaysCallable belongs }
+    ensures { (p : ℕ → Bool) → ((c : ℕ) (r : Bool) → c < 256 → F.post belongs c r → r ≡ p c)
+        → result ≡ from + run p (drop from source.now) }
 {
-    match class {
-        BLANK => is_whitespace(c),
-        WORD => is_identifier(c),
-        UP_TO_ONE => c <= b'1',
-        QUOTED => !((c == b'\'') | (c == b'\n')),
-        REMARK => c != b'\n',
-        2 => is_binary_digit(c),
-        8 => is_octal_digit(c),
-        10 => is_decimal_digit(c),
-        _ => is_hexadecimal_digit(c),
-    }
-}
-
-// The place behind the run of a class that begins at `from`.
-pub fn run_end(source: &[u8], from: usize, class: u8) -> usize
-    ensures { result ≡ from + run (belongs class) (drop from source.now) }
-{
-    let mut i = from;
-    while i < source.len() {
-        if in_class(class, source[i]) {
-            i += 1;
-        } else {
+    for i in from..source.len() {
+        if !belongs(source[i]) {
             return i;
         }
     }
-    i
+    from.max(source.len())
 }
 
 // What a hexadecimal digit is worth: the low four bits of its code, and 9 more for a letter. A sum, so that every digit takes the
@@ -119,30 +115,21 @@ pub fn digit_value(c: u8) -> u64
     (c % 16 + 9 * (c / 64)) as u64
 }
 
-// The number that digits write: one that an i32 holds, or none.
-#[derive(Clone, Copy)]
-pub enum Value {
-    Fits(u32),
-    Beyond,
-}
-
-// The number that the hexadecimal digits from `from` to before `to` write.
-pub fn from_radix(source: &[u8], from: usize, to: usize, base: u64) -> Value
-    requires { (from ≤ to) × (to ≤ length source.now) × (1 ≤ base) × (base ≤ 16) × (are_hex_digits source.now from to ≡ true) }
-    ensures { result ≡ valued_from 0 base (take (to - from) (drop from source.now)) }
+// The number that hexadecimal digits write, if they are digits of the base and an i32 holds it.
+pub fn from_radix(digits: &[u8], base: u64) -> Option<u32>
+    requires { (1 ≤ base) × (base ≤ 16) × (all is_hex_digit digits.now ≡ true) }
+    ensures { result ≡ valued_from 0 base digits.now }
 {
     let mut v: u64 = 0;
-    let mut i = from;
-    while i < to {
-        let d = digit_value(source[i]);
+    for c in digits {
+        let d = digit_value(*c);
         if base <= d {
-            return Value::Beyond;
+            return None;
         }
         v = v * base + d;
         if 2147483647 < v {
-            return Value::Beyond;
+            return None;
         }
-        i += 1;
     }
-    Value::Fits(v as u32)
+    Some(v as u32)
 }

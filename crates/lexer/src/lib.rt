@@ -1,18 +1,21 @@
 // Letters, numbers and tokens of a marker file, read one at a time by a cursor that goes by value.
 #![tactic(auto)]
 
-ghost use Rattle.std.specs.Prelude.{◌≡◌, true, ℕ, suc, ◌+◌, ◌-◌, ◌≤◌, ◌<◌, length, take, drop, get_or};
-ghost use Rattle.lexer.specs.Text.{is_digit, is_hex_digit, digit};
+ghost use Rattle.std.specs.Prelude.{◌≡◌, Bool, true, ℕ, suc, ◌+◌, ◌-◌, ◌≤◌, ◌<◌, length, take, drop, get_or};
+ghost use Rattle.lexer.specs.Text.{is_digit, is_hex_digit, digit, run};
 ghost use Rattle.lexer.specs.Tokens.{token_at, number_at, suffixed, prefixed, digits};
-ghost use Rattle.lexer.specs.Runs.{belongs, are_hex_digits, after_zero};
-ghost use Rattle.lexer.specs.Scanned.{is_mark, scanned_of, token_of, next_of};
+ghost use Rattle.lexer.specs.Runs.{are_hex_digits, after_zero};
+ghost use Rattle.lexer.specs.Scanned.{number_of, scanned_of, token_of, next_of};
 
 use characters::{
-    BLANK, QUOTED, REMARK, UP_TO_ONE, Value, WORD, char_at, from_radix, is_decimal_digit,
-    is_identifier_first, is_letter, is_whitespace, run_end,
+    char_at, from_radix, is_at_most_one, is_binary_digit, is_decimal_digit, is_hexadecimal_digit,
+    is_identifier, is_identifier_first, is_letter, is_octal_digit, is_quoted, is_remark,
+    is_whitespace, run_end,
 };
+use single::single;
 
 mod characters;
+mod single;
 
 #[derive(Clone, Copy)]
 pub enum LiteralKind {
@@ -49,73 +52,92 @@ pub enum Token {
 }
 
 // Why a number is refused: 30, a binary one with a larger digit; 31, a prefixed one above 2147483647.
-#[derive(Clone, Copy)]
+#[derive(Clone, Copy, PartialEq, Eq)]
 pub enum Fault {
     LargerDigit,
     TooLarge,
 }
 
-// A token, or a number that is refused, with its length.
+// A token, or a number that is refused, with its length: what the definitions give. No Result: the laws of `rules` go by these cases, and
+// an `Err` of a length and a fault would make none of them plainer.
 #[derive(Clone, Copy)]
 pub enum TokenRead {
     Read(Token),
     Refused(usize, Fault),
 }
 
-// A token as numbers. The kind is a punctuation's own character, a refusal's number, or one of the constants below. The value is
-// a number's value, the byte of an invalid token, and else 0; the end is the place behind the token.
+// What a token is, in one byte, which readers compare. The numbers are those that C takes: a punctuation's own character, a refusal's
+// number, and else a character that stands for the kind.
+#[derive(Clone, Copy, PartialEq, Eq)]
+pub enum Kind {
+    EndOfFile = 0,
+    NewLine = 10,
+    LargerDigit = 30,
+    TooLarge = 31,
+    Whitespace = 32,
+    Invalid = 33,
+    UnclosedString = 34,
+    Dollar = 36,
+    ClosedString = 39,
+    OpenParenthesis = 40,
+    CloseParenthesis = 41,
+    Star = 42,
+    Plus = 43,
+    Comma = 44,
+    Minus = 45,
+    Dot = 46,
+    ForwardSlash = 47,
+    Number = 48,
+    Colon = 58,
+    Comment = 59,
+    OpenBracket = 91,
+    CloseBracket = 93,
+    Identifier = 97,
+}
+
+impl Kind {
+    // The number that C takes.
+    #[inline]
+    pub fn number(self) -> u8
+        ensures { result ≡ number_of self }
+    {
+        self as u8
+    }
+}
+
+// A token where it was scanned: its kind, a number's value, the byte of an invalid token, and else 0, and the place behind it. The value
+// stands beside the kind, since two kinds of 23 have one and readers ask for the kind.
 #[derive(Clone, Copy)]
 pub struct Scanned {
-    pub kind: u8,
+    pub kind: Kind,
     pub value: u32,
     pub end: usize,
 }
 
-pub const END_OF_FILE: u8 = 0;
-
-pub const NEW_LINE: u8 = b'\n';
-
-pub const WHITESPACE: u8 = b' ';
-
-pub const COMMENT: u8 = b';';
-
-pub const IDENTIFIER: u8 = b'a';
-
-pub const NUMBER: u8 = b'0';
-
-pub const CLOSED: u8 = b'\'';
-
-pub const UNCLOSED: u8 = b'"';
-
-pub const INVALID: u8 = b'!';
-
-pub const LARGER_DIGIT: u8 = refusals::BINARY_LARGER_DIGIT as u8;
-
-pub const TOO_LARGE: u8 = refusals::PREFIXED_TOO_LARGE as u8;
-
-// The digits of a base behind the prefix that stands at `at`.
-fn number_literal_with_prefix(source: &[u8], at: usize, base: u8) -> Scanned
-    requires { (at < length source.now) × (1 ≤ base) × (base ≤ 16)
-        × ((c : ℕ) → belongs base c ≡ true → (is_hex_digit c ≡ true) × (digit c < base)) }
-    ensures { result ≡ scanned_of at (prefixed base (belongs base) (drop (at + 2) source.now)) }
+// The digits of a base behind the prefix that stands at `at`, up to before `end`.
+fn number_literal_with_prefix(source: &[u8], at: usize, base: u64, end: usize) -> Scanned
+    requires { (at < length source.now) × (1 ≤ base) × (base ≤ 16) × ((p : ℕ → Bool) × (end ≡ at + 2 + run p (drop (at + 2) source.now))
+        × ((c : ℕ) → p c ≡ true → (is_hex_digit c ≡ true) × (digit c < base))) }
+    ensures { (p : ℕ → Bool) → end ≡ at + 2 + run p (drop (at + 2) source.now)
+        → ((c : ℕ) → p c ≡ true → (is_hex_digit c ≡ true) × (digit c < base))
+        → result ≡ scanned_of at (prefixed base p (drop (at + 2) source.now)) }
 {
     let from = at + 2;
-    let end = run_end(source, from, base);
     if end == from {
         return Scanned {
-            kind: NUMBER,
+            kind: Kind::Number,
             value: 0,
             end: at + 1,
         };
     }
-    match from_radix(source, from, end, base as u64) {
-        Value::Fits(v) => Scanned {
-            kind: NUMBER,
-            value: v,
+    match from_radix(&source[from..end], base) {
+        Some(value) => Scanned {
+            kind: Kind::Number,
+            value,
             end,
         },
-        Value::Beyond => Scanned {
-            kind: TOO_LARGE,
+        None => Scanned {
+            kind: Kind::TooLarge,
             value: 0,
             end,
         },
@@ -128,14 +150,14 @@ fn number_literal(source: &[u8], at: usize, to: usize, base: u64, end: usize) ->
         × (are_hex_digits source.now at to ≡ true) }
     ensures { result ≡ scanned_of at (digits (get_or source.now at 0) base (take (to - at) (drop at source.now)) (end - at)) }
 {
-    match from_radix(source, at, to, base) {
-        Value::Fits(v) => Scanned {
-            kind: NUMBER,
+    match from_radix(&source[at..to], base) {
+        Some(v) => Scanned {
+            kind: Kind::Number,
             value: v,
             end,
         },
-        Value::Beyond => Scanned {
-            kind: INVALID,
+        None => Scanned {
+            kind: Kind::Invalid,
             value: source[at] as u32,
             end: at + 1,
         },
@@ -147,7 +169,7 @@ fn number_literal_with_suffix(source: &[u8], at: usize) -> Scanned
     requires { (at < length source.now) × (is_digit (get_or source.now at 0) ≡ true) }
     ensures { result ≡ scanned_of at (suffixed (get_or source.now at 0) (drop (suc at) source.now)) }
 {
-    let end = run_end(source, at, 16);
+    let end = run_end(source, at, is_hexadecimal_digit);
     let after = char_at(source, end);
     if is_letter(after, b'o', b'O') {
         return number_literal(source, at, end, 8, end + 1);
@@ -158,9 +180,9 @@ fn number_literal_with_suffix(source: &[u8], at: usize) -> Scanned
     let last = end - 1;
     let suffix = source[last];
     if is_letter(suffix, b'b', b'B') {
-        if run_end(source, at, UP_TO_ONE) < last {
+        if run_end(source, at, is_at_most_one) < last {
             return Scanned {
-                kind: LARGER_DIGIT,
+                kind: Kind::LargerDigit,
                 value: 0,
                 end,
             };
@@ -190,26 +212,23 @@ fn number(source: &[u8], at: usize, first: u8) -> Scanned
     requires { (at < length source.now) × (first ≡ get_or source.now at 0) × (is_digit first ≡ true) }
     ensures { result ≡ scanned_of at (number_at first (drop (suc at) source.now)) }
 {
-    let second = after_zero(source, at, first);
-    if second == b'b' {
-        return number_literal_with_prefix(source, at, 2);
+    match after_zero(source, at, first) {
+        b'b' => number_literal_with_prefix(source, at, 2, run_end(source, at + 2, is_binary_digit)),
+        b'o' => number_literal_with_prefix(source, at, 8, run_end(source, at + 2, is_octal_digit)),
+        b'd' => number_literal_with_prefix(
+            source,
+            at,
+            10,
+            run_end(source, at + 2, is_decimal_digit),
+        ),
+        b'x' => number_literal_with_prefix(
+            source,
+            at,
+            16,
+            run_end(source, at + 2, is_hexadecimal_digit),
+        ),
+        _ => number_literal_with_suffix(source, at),
     }
-    if second == b'o' {
-        return number_literal_with_prefix(source, at, 8);
-    }
-    if second == b'd' {
-        return number_literal_with_prefix(source, at, 10);
-    }
-    if second == b'x' {
-        return number_literal_with_prefix(source, at, 16);
-    }
-    number_literal_with_suffix(source, at)
-}
-
-fn is_punctuation(c: u8) -> bool
-    ensures { result ≡ is_mark c }
-{
-    ((b'(' <= c) & (c <= b'/')) | (c == b'$') | (c == b':') | (c == b'[') | (c == b']')
 }
 
 // The token at a place; beyond the end, the end of file. The tests stand in the order of how often each is met.
@@ -218,24 +237,24 @@ pub fn scan(source: &[u8], at: usize) -> Scanned
 {
     if source.len() <= at {
         return Scanned {
-            kind: END_OF_FILE,
+            kind: Kind::EndOfFile,
             value: 0,
             end: at,
         };
     }
     let c = source[at];
     if is_whitespace(c) {
-        let end = run_end(source, at + 1, BLANK);
+        let end = run_end(source, at + 1, is_whitespace);
         return Scanned {
-            kind: WHITESPACE,
+            kind: Kind::Whitespace,
             value: 0,
             end,
         };
     }
     if is_identifier_first(c) {
-        let end = run_end(source, at + 1, WORD);
+        let end = run_end(source, at + 1, is_identifier);
         return Scanned {
-            kind: IDENTIFIER,
+            kind: Kind::Identifier,
             value: 0,
             end,
         };
@@ -243,84 +262,89 @@ pub fn scan(source: &[u8], at: usize) -> Scanned
     if is_decimal_digit(c) {
         return number(source, at, c);
     }
-    if is_punctuation(c) | (c == NEW_LINE) {
+    if let Some(kind) = single(c) {
         return Scanned {
-            kind: c,
+            kind,
             value: 0,
             end: at + 1,
         };
     }
     if c == b';' {
-        let end = run_end(source, at + 1, REMARK);
+        let end = run_end(source, at + 1, is_remark);
         return Scanned {
-            kind: COMMENT,
+            kind: Kind::Comment,
             value: 0,
             end,
         };
     }
     if c == b'\'' {
-        let end = run_end(source, at + 1, QUOTED);
+        let end = run_end(source, at + 1, is_quoted);
         let after = char_at(source, end);
         if after == b'\'' {
             return Scanned {
-                kind: CLOSED,
+                kind: Kind::ClosedString,
                 value: 0,
                 end: end + 1,
             };
         }
         return Scanned {
-            kind: UNCLOSED,
+            kind: Kind::UnclosedString,
             value: 0,
             end,
         };
     }
     Scanned {
-        kind: INVALID,
+        kind: Kind::Invalid,
         value: c as u32,
         end: at + 1,
     }
 }
 
-// The token that the numbers of a scan stand for, of n bytes. A scan's values are below the remainders' divisors, which only say so to the casts.
-fn token_of(kind: u8, value: u32, n: usize) -> Token
+// The token of n bytes that a kind and a value stand for, or why it is refused. A scan's values are below the remainders' divisors, which
+// only say so to the casts.
+#[tactic(auto, unfolding(crate::specs::Scanned::token_of))]
+fn token_of(kind: Kind, value: u32, n: usize) -> Result<Token, Fault>
     ensures { result ≡ token_of kind value n }
 {
-    match kind {
-        END_OF_FILE => Token::EndOfFile(n),
-        NEW_LINE => Token::NewLine(n),
-        WHITESPACE => Token::Whitespace(n),
-        COMMENT => Token::Comment(n),
-        IDENTIFIER => Token::Identifier(n),
-        NUMBER => Token::Literal(n, LiteralKind::Number((value % 2147483648) as i32)),
-        CLOSED => Token::Literal(n, LiteralKind::Text(true)),
-        UNCLOSED => Token::Literal(n, LiteralKind::Text(false)),
-        b']' => Token::Punctuation(n, PunctuationKind::CloseBracket),
-        b')' => Token::Punctuation(n, PunctuationKind::CloseParenthesis),
-        b':' => Token::Punctuation(n, PunctuationKind::Colon),
-        b',' => Token::Punctuation(n, PunctuationKind::Comma),
-        b'$' => Token::Punctuation(n, PunctuationKind::Dollar),
-        b'.' => Token::Punctuation(n, PunctuationKind::Dot),
-        b'/' => Token::Punctuation(n, PunctuationKind::ForwardSlash),
-        b'-' => Token::Punctuation(n, PunctuationKind::Minus),
-        b'[' => Token::Punctuation(n, PunctuationKind::OpenBracket),
-        b'(' => Token::Punctuation(n, PunctuationKind::OpenParenthesis),
-        b'+' => Token::Punctuation(n, PunctuationKind::Plus),
-        b'*' => Token::Punctuation(n, PunctuationKind::Star),
-        _ => Token::Invalid(n, (value % 256) as u8),
-    }
+    Ok(match kind {
+        Kind::EndOfFile => Token::EndOfFile(n),
+        Kind::NewLine => Token::NewLine(n),
+        Kind::LargerDigit => return Err(Fault::LargerDigit),
+        Kind::TooLarge => return Err(Fault::TooLarge),
+        Kind::Whitespace => Token::Whitespace(n),
+        Kind::Invalid => Token::Invalid(n, (value % 256) as u8),
+        Kind::UnclosedString => Token::Literal(n, LiteralKind::Text(false)),
+        Kind::Dollar => Token::Punctuation(n, PunctuationKind::Dollar),
+        Kind::ClosedString => Token::Literal(n, LiteralKind::Text(true)),
+        Kind::OpenParenthesis => Token::Punctuation(n, PunctuationKind::OpenParenthesis),
+        Kind::CloseParenthesis => Token::Punctuation(n, PunctuationKind::CloseParenthesis),
+        Kind::Star => Token::Punctuation(n, PunctuationKind::Star),
+        Kind::Plus => Token::Punctuation(n, PunctuationKind::Plus),
+        Kind::Comma => Token::Punctuation(n, PunctuationKind::Comma),
+        Kind::Minus => Token::Punctuation(n, PunctuationKind::Minus),
+        Kind::Dot => Token::Punctuation(n, PunctuationKind::Dot),
+        Kind::ForwardSlash => Token::Punctuation(n, PunctuationKind::ForwardSlash),
+        Kind::Number => Token::Literal(n, LiteralKind::Number((value % 2147483648) as i32)),
+        Kind::Colon => Token::Punctuation(n, PunctuationKind::Colon),
+        Kind::Comment => Token::Comment(n),
+        Kind::OpenBracket => Token::Punctuation(n, PunctuationKind::OpenBracket),
+        Kind::CloseBracket => Token::Punctuation(n, PunctuationKind::CloseBracket),
+        Kind::Identifier => Token::Identifier(n),
+    })
+}
+
+// Why a number is refused, and its span.
+#[derive(Clone, Copy, PartialEq, Eq)]
+pub struct BadNumber {
+    pub fault: Fault,
+    pub from: usize,
+    pub to: usize,
 }
 
 // The place at which the next token is read.
 #[derive(Clone, Copy)]
 pub struct Cursor {
     pub pos: usize,
-}
-
-// A token and the cursor behind it; or why a number is refused, and its span.
-#[derive(Clone, Copy)]
-pub enum Next {
-    Token(Token, Cursor),
-    Refused(Fault, usize, usize),
 }
 
 impl Cursor {
@@ -330,21 +354,20 @@ impl Cursor {
         Cursor { pos: 0 }
     }
 
-    pub fn next_token(self, source: &[u8]) -> Next
+    // The next token and the cursor behind it.
+    pub fn next_token(self, source: &[u8]) -> Result<(Token, Cursor), BadNumber>
         ensures { result ≡ next_of self.pos (token_at (drop self.pos source.now)) }
     {
-        let at = self.pos;
-        let s = scan(source, at);
-        let kind = s.kind;
-        let end = s.end;
-        if kind == LARGER_DIGIT {
-            return Next::Refused(Fault::LargerDigit, at, end);
+        let from = self.pos;
+        let Scanned { kind, value, end } = scan(source, from);
+        match token_of(kind, value, end - from) {
+            Ok(token) => Ok((token, Cursor { pos: end })),
+            Err(fault) => Err(BadNumber {
+                fault,
+                from,
+                to: end,
+            }),
         }
-        if kind == TOO_LARGE {
-            return Next::Refused(Fault::TooLarge, at, end);
-        }
-        let token = token_of(kind, s.value, end - at);
-        Next::Token(token, Cursor { pos: end })
     }
 }
 

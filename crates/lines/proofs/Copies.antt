@@ -5,7 +5,7 @@ use mathlib.Core.List.{List, [], ◌∷◌, ◌++◌, append-nil, append_assoc}
 use Prim.Native.Nat.{ℕ, ◌+◌, ◌-◌, ◌≤◌, ◌<◌}
 use native.Mathlib.Numerals.{add-one}
 use native.Mathlib.Omega.{arith}
-use native.Mathlib.Nat.{zero-add, sub-zero}
+use native.Mathlib.Nat.{zero-add}
 use lib.ListN.{length, set, get_or, take, drop, length-append, length-drop, drop_of_length-le}
 use lib.Seq.{take-suc, take-length, length-take-le, drop-drop}
 use Rattle.rules.specs.Calls.{overwrite}
@@ -35,7 +35,7 @@ copied l at b {p} h e =
 
 -- Three runs of bytes that fill a buffer from its first byte on, the last copied first.
 pub exchanged_over : (s t l : List ℕ) (a e : ℕ) {l₁ l₂ l₃ : List ℕ} → a ≤ length s → a + length t + (length s - e) ≤ length l
-    → l₁ ≡ stores l (a + length t) (take (length s - e) (drop e s)) → l₂ ≡ stores l₁ a t → l₃ ≡ stores l₂ 0 (take (a - 0) (drop 0 s)) → l₃ ≡ overwrite (take a s ++ (t ++ drop e s)) l
+    → l₁ ≡ stores l (a + length t) (take (length s - e) (drop e s)) → l₂ ≡ stores l₁ a t → l₃ ≡ stores l₂ 0 (take a s) → l₃ ≡ overwrite (take a s ++ (t ++ drop e s)) l
 exchanged_over s t l a e {l₁} {l₂} {l₃} h k i j m =
     let A : List ℕ = take a s in
     let D : List ℕ = drop e s in
@@ -43,5 +43,5 @@ exchanged_over s t l a e {l₁} {l₂} {l₃} h k i j m =
     let y : length D ≡ length s - e = length-drop e s in
     let u : l₂ ≡ stores l a (t ++ D) = j ∙ ap (λ (o : List ℕ). stores o a t) (i ∙ ap (stores l (a + length t)) (rest_of s e)) ∙ stored_before l a t D in
     let v : l₃ ≡ stores l 0 (A ++ (t ++ D)) =
-    m ∙ ap₂ (λ (o : List ℕ) (n : ℕ). stores o 0 (take n s)) u (sub-zero a) ∙ ap (λ (n : ℕ). stores (stores l n (t ++ D)) 0 A) (sym (zero-add (length A) ∙ x)) ∙ stored_before l 0 A (t ++ D) in
+    m ∙ ap (λ (o : List ℕ). stores o 0 A) u ∙ ap (λ (n : ℕ). stores (stores l n (t ++ D)) 0 A) (sym (zero-add (length A) ∙ x)) ∙ stored_before l 0 A (t ++ D) in
     v ∙ stored_over l (A ++ (t ++ D)) (omega (arith, length-append A (t ++ D), length-append t D))

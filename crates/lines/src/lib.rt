@@ -13,13 +13,7 @@ ghost use Rattle.rules.specs.Patch.{begins_line};
 pub fn begins_line(source: &[u8], place: usize) -> bool
     ensures { result ≡ begins_line source.now place }
 {
-    if place == 0 {
-        return true;
-    }
-    if source.len() < place {
-        return false;
-    }
-    source[place - 1] == b'\n'
+    place == 0 || source.get(place - 1) == Some(&b'\n')
 }
 
 // The first line feed from a place on, or the end.
@@ -27,14 +21,8 @@ pub fn line_end(source: &[u8], place: usize) -> usize
     requires { place ≤ length source.now }
     ensures { result ≡ place + run_of in_comment (drop place source.now) }
 {
-    let mut i = place;
-    while i < source.len() {
-        if source[i] == b'\n' {
-            return i;
-        }
-        i += 1;
-    }
-    i
+    let rest = &source[place..];
+    place + rest.iter().position(|b| *b == b'\n').unwrap_or(rest.len())
 }
 
 // Where the line begins that ends before a place.
@@ -42,23 +30,20 @@ pub fn line_start(source: &[u8], end: usize) -> usize
     requires { end ≤ length source.now }
     ensures { (result ≤ end) × (begins_line source.now result ≡ true) × (among 10 (take (end - result) (drop result source.now)) ≡ false) }
 {
-    let mut i = end;
-    while 0 < i {
-        if source[i - 1] == b'\n' {
-            return i;
-        }
-        i = i - 1;
-    }
-    i
+    end - source[..end]
+        .iter()
+        .rev()
+        .position(|b| *b == b'\n')
+        .unwrap_or(end)
 }
 
-// Bytes copied to a place.
+// Bytes copied to a place, one by one: the slice's own copy would need the C library's `memmove`.
 pub fn copy(out: &mut [u8], at: usize, run: &[u8])
     requires { at + length run.now ≤ length out.old }
     ensures { out.new ≡ stores out.old at run.now }
 {
-    for i in 0..run.len() {
-        out[at + i] = run[i];
+    for (i, b) in run.iter().enumerate() {
+        out[at + i] = *b;
     }
 }
 
@@ -72,5 +57,5 @@ pub fn edit(source: &[u8], place: usize, end: usize, text: &[u8], out: &mut [u8]
     let behind = place + text.len();
     copy(out, behind, &source[end..]);
     copy(out, place, text);
-    copy(out, 0, &source[0..place]);
+    copy(out, 0, &source[..place]);
 }

@@ -1,6 +1,11 @@
 -- A word is a name exactly where their keys agree. A name has no zero among its letters, and a word that has a key ends in none,
 -- so the zeros that fill a key up are told from letters.
 use Rattle.std.specs.Prelude.{if◌then◌else◌}
+use Rattle.std.specs.Char.{to_ascii_lowercase}
+use Rattle.std.specs.Int.{from_be_bytes, w64}
+use Rattle.std.specs.Simd.{first_chunks}
+use Rattle.std.proofs.lemmas.List.{get_or-take}
+use Rattle.std.proofs.lemmas.Str.Ascii.{lowercase_is}
 use mathlib.Core.Path.{◌≡◌, refl, sym, ap, subst, ◌∙◌}
 use mathlib.Core.Bool.{Bool, true, false, not, ◌&&◌}
 use mathlib.Core.List.{List, [], ◌∷◌, map}
@@ -11,10 +16,11 @@ use native.Mathlib.Omega.{arith}
 use mir.Syntax.{w8}
 use mir.Val.{Fits}
 use lib.Dec.{T, eqb, leb, ltb, eqb→eq, leb→le, ltb→lt}
-use lib.ListN.{length, get_or, drop, get_or-map}
-use lib.Seq.{get_or-drop}
-use borrow.Author.Tests.{eq-eqb, ne_eqb, eqb-false, le-leb, lt-leb, leb-true}
+use lib.ListN.{length, get_or, take, drop, get_or-map}
+use lib.Seq.{get_or-drop, drop-drop}
+use borrow.Author.Tests.{eq-eqb, ne_eqb, eqb-false, le-leb, lt-leb, leb-true, leb-false}
 use Rattle.lexer.specs.Text.{all, same, lower, within}
+use Rattle.names.specs.Names.{rows_in}
 use Rattle.names.specs.Keys.{joined, seven, eight, key, key_of, spelled}
 
 pub both : (b c : Bool) → T (b && c) → T b × T c
@@ -26,6 +32,27 @@ iff true true f g = refl
 iff true false f g = absurd (f tt)
 iff false true f g = absurd (g tt)
 iff false false f g = refl
+
+pub lowercase : (c : ℕ) → to_ascii_lowercase c ≡ lower c
+unfolding lower within
+lowercase c = by (leb 65 c) (leb c 90) refl refl
+  where
+    by : (p q : Bool) → leb 65 c ≡ p → leb c 90 ≡ q → to_ascii_lowercase c ≡ (if p && q then c + 32 else c)
+    by true true e f = let l = leb-true 65 c e in let m = leb-true c 90 f in (lowercase_is c).0 (omega arith, omega arith)
+    by true false e f = let m = leb-false c 90 f in (lowercase_is c).2 (omega arith)
+    by false q e f = let m = leb-false 65 c e in (lowercase_is c).1 (omega arith)
+
+pub lower_null : (c : ℕ) → lower c ≡ 0 → c ≡ 0
+unfolding lower within
+lower_null c = by (leb 65 c && leb c 90)
+  where
+    by : (b : Bool) → (if b then c + 32 else c) ≡ 0 → c ≡ 0
+    by true e = absurd (omega arith)
+    by false e = e
+
+pub null_lower : {c : ℕ} → c ≡ 0 → lower c ≡ 0
+unfolding lower within
+null_lower e = rw e refl
 
 -- the letters of a word in lower case
 pub lower_at : (w : List ℕ) (i : ℕ) → get_or (map lower w) i 0 ≡ lower (get_or w i 0)
@@ -69,6 +96,30 @@ seven_key s = simp get_or-drop
 pub eight_key : (s : List ℕ) (i : ℕ) → eight s i ≡ key (drop i s) * 256 + get_or s (i + 7) 0
 unfolding key
 eight_key s i = simp (get_or-drop, add-zero)
+
+-- a row is one of the chunks of eight bytes
+chunk : (n i : ℕ) (t : List ℕ) → i < n → get_or (first_chunks 8 n t) i [] ≡ take 8 (drop (8 * i) t)
+chunk zero i t h = absurd (omega arith)
+chunk (suc n) zero t h = refl
+chunk (suc n) (suc i) t h =
+    let e : 8 + 8 * i ≡ 8 * suc i = omega arith in
+    chunk n i (drop 8 t) (omega arith) ∙ ap (take 8) (drop-drop (8 * i) 8 t ∙ ap (λ (j : ℕ). drop j t) e)
+
+be_eight : (s : List ℕ) → from_be_bytes w64 (take 8 s) ≡ eight s 0
+be_eight s =
+    let at : (i : ℕ) → i < 8 → get_or (take 8 s) i 0 ≡ get_or s i 0 = λ i h. get_or-take 8 s i 0 h in
+    omega (arith, at 0 (omega arith), at 1 (omega arith), at 2 (omega arith), at 3 (omega arith), at 4 (omega arith), at 5 (omega arith), at 6 (omega arith), at 7 (omega arith))
+
+pub be_row : (t : List ℕ) (i : ℕ) → i < rows_in t → from_be_bytes w64 (get_or (first_chunks 8 (rows_in t) t) i []) ≡ eight t (8 * i)
+be_row t i h = ap (from_be_bytes w64) (chunk (rows_in t) i t h) ∙ be_eight (drop (8 * i) t) ∙ simp (get_or-drop, add-zero)
+
+pub key_low : (t : List ℕ) → ((i : ℕ) → get_or t i 0 < 256) → (i : ℕ) → key (drop i t) < 72057594037927936
+key_low t small i = omega (arith, eight_key t i, small i, small (i + 1), small (i + 2), small (i + 3), small (i + 4), small (i + 5), small (i + 6), small (i + 7))
+
+-- a number behind its first n bytes, and the next
+pub joined_last : (n a : ℕ) (s : List ℕ) → joined a (suc n) s ≡ joined a n s * 256 + get_or s n 0
+joined_last zero a s = refl
+joined_last (suc n) a s = joined_last n (a * 256 + get_or s 0 0) (drop 1 s) ∙ ap (λ (c : ℕ). joined a (suc n) s * 256 + c) (get_or-drop 1 s n 0 ∙ ap (λ (i : ℕ). get_or s i 0) (omega arith))
 
 -- up to n bytes, of which the last is not zero
 record Word (n : ℕ) (s : List ℕ) : Type 0 where

@@ -1,6 +1,6 @@
 pub mod Keys
 pub mod Rows
-pub mod Operations
+pub mod Good
 pub mod Names
 pub mod Dots
 pub mod Halves

@@ -2,15 +2,11 @@
 use mathlib.Core.Path.{◌≡◌, refl, sym, ap, ◌∙◌}
 use mathlib.Core.Bool.{Bool, true, ◌&&◌}
 use mathlib.Core.List.{List, [], ◌∷◌, map}
-use mathlib.Core.Option.{none}
 use Prim.Native.Nat.{ℕ, suc, ◌<◌}
 use Prim.Native.String.{String}
 use lib.Dec.{T}
 use lib.ListN.{get_or}
-use borrow.Author.Tests.{ne_eqb}
 use Rattle.lexer.specs.Text.{bytes, lower, all}
-use Rattle.names.specs.declared.Name.TheVariants as name
-use Rattle.names.specs.declared.Directive.TheVariants as directive
 use Rattle.names.specs.Names.{registers, segments, sizes, directives, place_from, named, name_of, directive_of}
 use Rattle.names.specs.Keys.{key_of, spelled, keys_of, place_of, name_by, directive_by}
 use Rattle.names.proofs.Keys.{Bytes, both, by_key, lower_small}
@@ -25,36 +21,6 @@ by_keys v small n [] t = refl
 by_keys v small n (s ∷ ss) t =
     let b = both (spelled (bytes s)) (all_spelled ss) t in
     rw (by_key v small (bytes s) b.0, by_keys v small (suc n) ss b.1)
-
--- x is none of the keys, as the rest of a match says it
-abbrev Away : Type 0 → ℕ → List ℕ → Type 0
-Away P x [] = P
-Away P x (k ∷ ks) = Away (P × (x ≡ k → ⊥)) x ks
-
-away : (P : Type 0) (x n : ℕ) (ks : List ℕ) → Away P x ks → P × (place_of n x ks ≡ none)
-away P x n [] a = (a, refl)
-away P x n (k ∷ ks) a =
-    let r = away (P × (x ≡ k → ⊥)) x (suc n) ks a in
-    (r.0.0, rw (ne_eqb x k r.0.1) r.1)
-
--- the arm of a key k, and the last arm
-pub name_at_lem : {x k : ℕ} → x ≡ k → name_by k ≡ name_by x
-name_at_lem e = ap name_by (sym e)
-
-pub name_away : (x : ℕ) → Away (Away (Away (Unit {0}) x (keys_of registers)) x (keys_of segments)) x (keys_of sizes) → name.Other ≡ name_by x
-unfolding registers segments sizes
-name_away x a =
-    let z = away (Away (Away (Unit {0}) x (keys_of registers)) x (keys_of segments)) x 0 (keys_of sizes) a in
-    let y = away (Away (Unit {0}) x (keys_of registers)) x 0 (keys_of segments) z.0 in
-    let r = away (Unit {0}) x 0 (keys_of registers) y.0 in
-    sym (rw (r.1, y.1, z.1))
-
-pub directive_at : {x k : ℕ} → x ≡ k → directive_by k ≡ directive_by x
-directive_at e = ap directive_by (sym e)
-
-pub directive_away : (x : ℕ) → Away (Unit {0}) x (keys_of directives) → directive.Other ≡ directive_by x
-unfolding directives
-directive_away x a = sym (rw (away (Unit {0}) x 0 (keys_of directives) a).1)
 
 -- a word names what its key names
 module _ (w : List ℕ) (small : Bytes w) where

@@ -3,6 +3,7 @@ use mathlib.Core.Path.{◌≡◌, refl, sym, ap, subst, ◌∙◌}
 use mathlib.Core.Bool.{true, false, ◌&&◌}
 use mathlib.Core.List.{List, map}
 use mathlib.Core.Option.{Option, none, some}
+use Rattle.std.specs.Prelude.{Option as Maybe, None, Some}
 use Prim.Native.Nat.{ℕ, zero, suc, ◌+◌, ◌*◌, ◌≤◌, ◌<◌, suc-le-suc}
 use native.Mathlib.Nat.{le_of_suc-le-suc, not-suc-le-zero, lt_trans}
 use native.Mathlib.Omega.{arith}
@@ -12,7 +13,6 @@ use lib.Seq.{get_or-drop, drop-drop}
 use borrow.Author.Tests.{eq-eqb, ne_eqb}
 use Rattle.lexer.specs.Text.{maybe, lower}
 use Rattle.names.specs.declared.Directive.{Directive}
-use Rattle.names.specs.declared.Directive.TheVariants as directive
 use Rattle.names.specs.Names.{directives, directive_from, spelling, rows_in, operation_from, operation_named}
 use Rattle.names.specs.Keys.{key, key_at, key_of, spelled, keys_of, place_of, directive_by, operation_from_key, operation_by, good_from, apart_from, good_table}
 use Rattle.names.proofs.Keys.{Bytes, both, by_key, lower_small}
@@ -133,12 +133,9 @@ free (suc n) t a (suc k) h =
     (free n (drop 8 t) (both (maybe (place_of 0 (key t) (keys_of directives)) true (λ d. false)) (apart_from n (drop 8 t)) a).1 k (le_of_suc-le-suc h))
 
 -- what is a directive
-abbrev pub Directs : Directive → Type 0
-Directs directive.Equ = Unit {0}
-Directs directive.Db = Unit {0}
-Directs directive.Dw = Unit {0}
-Directs directive.Times = Unit {0}
-Directs directive.Other = ⊥
+abbrev pub Directs : Maybe Directive → Type 0
+Directs None = ⊥
+Directs (Some d) = Unit {0}
 
 pub directive_apart : (t : List ℕ) → good_table t ≡ true → (x : ℕ) → Directs (directive_by x) → none ≡ operation_by t x
 unfolding operation_by

@@ -1,4 +1,4 @@
--- What is claimed of lookups. The laws are proved in proofs/: Operations, Dots.
+-- What is claimed of lookups. The laws are proved in proofs/: Good, Dots.
 use Rattle.std.specs.Prelude.{◌≡◌, true, List, ℕ, ◌<◌}
 use Rattle.std.proofs.Math.Option.{none, some}
 use Prim.Native.Char.{code}

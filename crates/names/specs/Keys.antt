@@ -1,9 +1,9 @@
 -- Keys: seven letters as one number, the first highest, so that the keys of rows in rising order rise. A word is looked up by its key.
-use Rattle.std.specs.Prelude.{Bool, true, false, not, ◌&&◌, List, [], ◌∷◌, ℕ, zero, suc, ◌+◌, ◌*◌, ◌-◌, ◌/◌, eqb, leb, ltb, length, get_or, drop, if◌then◌else◌}
+use Rattle.std.specs.Prelude.{Bool, true, false, not, ◌&&◌, List, [], ◌∷◌, ℕ, zero, suc, ◌+◌, ◌*◌, ◌-◌, eqb, leb, ltb, length, get_or, drop, if◌then◌else◌}
+use Rattle.std.specs.Prelude.{Option as Maybe}
 use Rattle.std.proofs.Math.Option.{Option, none, some}
 use Prim.Native.String.{String}
 use Rattle.lexer.specs.Text.{maybe, bytes, all}
-use Rattle.names.specs.declared.Part.{Part}
 use Rattle.names.specs.declared.Name.{Name}
 use Rattle.names.specs.declared.Directive.{Directive}
 use Rattle.names.specs.Names.{spelling, rows_in, registers, segments, sizes, directives, name_from, directive_from}
@@ -45,11 +45,16 @@ place_of n x [] = none
 place_of n x (k ∷ ks) = let r : Option ℕ = place_of (suc n) x ks in if eqb x k then some n else r
 
 -- what a key names
-abbrev pub name_by : ℕ → Name
+abbrev pub name_by : ℕ → Maybe Name
 name_by x = name_from (place_of 0 x (keys_of registers)) (place_of 0 x (keys_of segments)) (place_of 0 x (keys_of sizes))
 
-abbrev pub directive_by : ℕ → Directive
+abbrev pub directive_by : ℕ → Maybe Directive
 directive_by x = directive_from (place_of 0 x (keys_of directives))
+
+-- opens the keys of names, which are then computed
+unfoldable pub open_keys : Unit {0}
+unfolding bytes registers segments sizes directives key
+open_keys = tt
 
 -- the operation of the first row that has a key
 unfoldable pub operation_from_key : ℕ → ℕ → List ℕ → Option ℕ
@@ -75,10 +80,6 @@ good_from (suc n) k table =
 unfoldable pub apart_from : ℕ → List ℕ → Bool
 apart_from zero table = true
 apart_from (suc n) table = maybe (place_of 0 (key table) (keys_of directives)) true (λ d. false) && apart_from n (drop 8 table)
-
--- Of the `rows` rows from `row` on, the half that may have a key of which `most` is the largest row.
-abbrev pub half : List ℕ → ℕ → (row rows : ℕ) → Part
-half table most row rows = record { row = if leb (eight table (8 * (row + rows / 2))) most then (row + rows / 2) else row; rows = rows - rows / 2 }
 
 -- a table of 1 to 128 spellings in rising order, free of repeats and of directives
 unfoldable pub good_table : List ℕ → Bool

@@ -1,10 +1,9 @@
 -- What a word names: a register, a segment, a size word, a directive, an operation. Case is ignored. RULES 3.
 use Rattle.std.specs.Prelude.{not, List, [], ◌∷◌, map, ℕ, zero, suc, ◌/◌, eqb, length, take, drop, get_or, if◌then◌else◌}
+use Rattle.std.specs.Prelude.{Option as Maybe, None, Some}
 use Rattle.std.proofs.Math.Option.{Option, none, some}
 use Prim.Native.String.{String}
 use Rattle.lexer.specs.Text.{maybe, bytes, lower, same, run}
-use Rattle.names.specs.declared.Found.{Found}
-use Rattle.names.specs.declared.Found.TheVariants as found
 use Rattle.names.specs.declared.Name.{Name}
 use Rattle.names.specs.declared.Name.TheVariants as name
 use Rattle.names.specs.declared.Directive.{Directive}
@@ -50,19 +49,19 @@ unfoldable pub operation_named : List ℕ → List ℕ → Option ℕ
 operation_named table w = operation_from (rows_in table) (map lower w) table
 
 -- What is found, as the code answers it.
-abbrev pub found_of : Option ℕ → Found
-found_of none = found.Nothing
-found_of (some n) = found.Operation n
+abbrev pub found_of : Option ℕ → Maybe ℕ
+found_of none = None
+found_of (some n) = Some n
 
 -- a register, else a segment, else a size word: 0 byte, 1 word
-abbrev pub name_from : Option ℕ → Option ℕ → Option ℕ → Name
-name_from r s z = maybe r (maybe s (maybe z name.Other name.Size) name.Segment) name.Register
+abbrev pub name_from : Option ℕ → Option ℕ → Option ℕ → Maybe Name
+name_from r s z = maybe r (maybe s (maybe z None (λ n. Some (name.Size n))) (λ n. Some (name.Segment n))) (λ n. Some (name.Register n))
 
-abbrev pub name_of : List ℕ → Name
+abbrev pub name_of : List ℕ → Maybe Name
 name_of w = name_from (named registers w) (named segments w) (named sizes w)
 
-abbrev pub directive_from : Option ℕ → Directive
-directive_from d = maybe d directive.Other (λ n. get_or (directive.Equ ∷ directive.Db ∷ directive.Dw ∷ directive.Times ∷ []) n directive.Other)
+abbrev pub directive_from : Option ℕ → Maybe Directive
+directive_from d = maybe d None (λ n. get_or (Some directive.Equ ∷ Some directive.Db ∷ Some directive.Dw ∷ Some directive.Times ∷ []) n None)
 
-abbrev pub directive_of : List ℕ → Directive
+abbrev pub directive_of : List ℕ → Maybe Directive
 directive_of w = directive_from (named directives w)

@@ -2,14 +2,14 @@
 // A word is looked up by its key: its letters as one number.
 #![tactic(auto)]
 
-ghost use Rattle.std.specs.Prelude.{◌≡◌, true, [], ◌∷◌, map, ℕ, ◌+◌, ◌*◌, ◌<◌, ◌≤◌, length, get_or};
+ghost use Rattle.std.specs.Prelude.{◌≡◌, true, map, ℕ, ◌+◌, ◌*◌, ◌<◌, length, get_or};
 ghost use Rattle.lexer.specs.Text as text;
 ghost use Rattle.names.specs.Table.{operations};
 ghost use Rattle.names.specs.Names.{rows_in, operation_named, found_of, name_of, directive_of};
 ghost use Rattle.names.specs.Keys as keys;
 
 // Seven letters, filled up with zeros, and the operation's number; the rows rise.
-const OPERATIONS: [u8; 936] = *b"\
+static ROWS: [u8; 936] = *b"\
     aaa\0\0\0\0\x11\
     aad\0\0\0\0\x1f\
     aam\0\0\0\0\x1c\
@@ -128,47 +128,35 @@ const OPERATIONS: [u8; 936] = *b"\
     xlatb\0\0\x06\
     xor\0\0\0\0\x2d";
 
-#[derive(Clone, Copy)]
-pub enum Found {
-    Operation(u8),
-    Nothing,
-}
-
-// Size: 0 byte, 1 word.
-#[derive(Clone, Copy)]
+// A number of a register, a segment or a size (0 byte, 1 word) is its encoding, and one of an operation stands in the table and in
+// the listing; nothing tells more than a few of them apart, so they stay numbers.
+#[derive(Clone, Copy, PartialEq, Eq)]
 pub enum Name {
     Register(u8),
     Segment(u8),
     Size(u8),
-    Other,
 }
 
-#[derive(Clone, Copy)]
+#[derive(Clone, Copy, PartialEq, Eq)]
 pub enum Directive {
     Equ,
     Db,
     Dw,
     Times,
-    Other,
 }
 
-// The table, for a caller that looks many words up: a constant is written out anew at each use.
-pub fn table() -> [u8; 936]
-    ensures { result ≡ operations }
-{
-    OPERATIONS
+// A table of operations: 1 to 128 rows, whose spellings rise and are no directives.
+#[derive(Clone, Copy)]
+pub struct Table<'a> {
+    pub rows: &'a [u8],
+    ghost good: { keys.good_table rows.now ≡ true },
 }
 
-fn lower(c: u8) -> u8
-    ensures { result ≡ text.lower c }
+// The table of the 99 operations.
+pub fn operations() -> Table<'static>
+    ensures { result.rows.now ≡ operations }
 {
-    if c < 65 {
-        return c;
-    }
-    if 90 < c {
-        return c;
-    }
-    c + 32
+    Table { rows: &ROWS }
 }
 
 // The letter at a place of a word that has letters, in lower case, and 0 past its end. A letter is read in any case, so that no
@@ -179,22 +167,8 @@ fn letter_at(word: &[u8], i: usize) -> u8
 {
     let n = word.len();
     let place = if i < n { i } else { 0 };
-    let letter = lower(word[place]);
+    let letter = word[place].to_ascii_lowercase();
     if i < n { letter } else { 0 }
-}
-
-// Eight bytes as one number, the first highest. In this form the reads of a row become one.
-fn joined(a: u8, b: u8, c: u8, d: u8, e: u8, f: u8, g: u8, h: u8) -> u64
-    ensures { (result ≡ keys.joined 0 8 (a ∷ b ∷ c ∷ d ∷ e ∷ f ∷ g ∷ h ∷ [])) × (h < 256) }
-{
-    let n = a as u64;
-    let n = n * 256 + b as u64;
-    let n = n * 256 + c as u64;
-    let n = n * 256 + d as u64;
-    let n = n * 256 + e as u64;
-    let n = n * 256 + f as u64;
-    let n = n * 256 + g as u64;
-    n * 256 + h as u64
 }
 
 // The first seven letters of a word as one number.
@@ -202,178 +176,139 @@ fn letters(word: &[u8]) -> u64
     requires { 0 < length word.now }
     ensures { result ≡ keys.seven (map text.lower word.now) }
 {
-    joined(
-        0,
-        letter_at(word, 0),
-        letter_at(word, 1),
-        letter_at(word, 2),
-        letter_at(word, 3),
-        letter_at(word, 4),
-        letter_at(word, 5),
-        letter_at(word, 6),
-    )
+    let mut key = 0;
+    for i in 0..7 {
+        key = key * 256 + letter_at(word, i) as u64;
+    }
+    key
 }
 
 // The key of a word, or 0 where the word can be no name: it is empty, has more than seven letters or ends in a zero.
+// A key stays a u64: no function asks anything of it, and a number goes in a register.
 pub fn word_key(word: &[u8]) -> u64
     ensures { (result ≡ keys.key_of (map text.lower word.now)) × (result < 0x100_0000_0000_0000) }
 {
-    if word.len() < 1 {
-        return 0;
-    }
-    if 7 < word.len() {
-        return 0;
-    }
-    if letter_at(word, word.len() - 1) == 0 {
-        return 0;
-    }
-    letters(word)
-}
-
-// The eight bytes of a row as one number: its key, and the operation's number behind it.
-fn row_at(table: &[u8], row: usize) -> u64
-    requires { row < rows_in table.now }
-    ensures { (result ≡ keys.eight table.now (8 * row)) × (get_or table.now (8 * row + 7) 0 < 256) }
-{
-    let i = 8 * row;
-    joined(
-        table[i],
-        table[i + 1],
-        table[i + 2],
-        table[i + 3],
-        table[i + 4],
-        table[i + 5],
-        table[i + 6],
-        table[i + 7],
-    )
-}
-
-// The rows from `row` on, `rows` of them.
-#[derive(Drop)]
-struct Part {
-    row: usize,
-    rows: usize,
-}
-
-// The half that may have a key of which `most` is the largest row.
-fn halved(table: &[u8], most: u64, part: Part) -> Part
-    requires { (1 ≤ part.rows) × (part.row + part.rows ≤ rows_in table.now) }
-    ensures { result ≡ keys.half table.now most part.row part.rows }
-{
-    let half = part.rows / 2;
-    let mid = part.row + half;
-    let row = if row_at(table, mid) <= most {
-        mid
-    } else {
-        part.row
-    };
-    Part {
-        row,
-        rows: part.rows - half,
+    match word {
+        [.., last] if word.len() <= 7 && *last != 0 => letters(word),
+        _ => 0,
     }
 }
 
-// The one row that may have the key. A table has at most 128 rows, which seven halvings bring down to one; in a row they take no branch.
-fn search(table: &[u8], key: u64) -> usize
-    requires { (keys.good_table table.now ≡ true) × (key < 0x100_0000_0000_0000) }
-    ensures { (result < rows_in table.now)
-        × ((k : ℕ) → k < rows_in table.now → keys.key_at table.now k ≡ key → k ≡ result) }
-{
-    let most = key * 256 + 255;
-    let part = Part {
-        row: 0,
-        rows: table.len() / 8,
-    };
-    let part = halved(table, most, part);
-    let part = halved(table, most, part);
-    let part = halved(table, most, part);
-    let part = halved(table, most, part);
-    let part = halved(table, most, part);
-    let part = halved(table, most, part);
-    let part = halved(table, most, part);
-    part.row
-}
+// Bytes are below 256, which is known of a parameter, and not of a field. It does nothing.
+fn octets(bytes: &[u8])
+    ensures { (i : ℕ) → get_or bytes.now i 0 < 256 }
+{}
 
-// The operation of a key by a table whose rows are spellings in rising order.
-pub fn operation_by(table: &[u8], key: u64) -> Found
-    requires { (keys.good_table table.now ≡ true) × (key < 0x100_0000_0000_0000) }
-    ensures { result ≡ found_of (keys.operation_by table.now key) }
-{
-    if key == 0 {
-        return Found::Nothing;
+impl<'a> Table<'a> {
+    // The eight bytes of a row as one number: its key, and the operation's number behind it.
+    fn row(self, row: usize) -> u64
+        requires { row < rows_in self.rows.now }
+        ensures { (result ≡ keys.eight self.entry.rows.now (8 * row)) × (get_or self.entry.rows.now (8 * row + 7) 0 < 256) }
+    {
+        octets(self.rows);
+        let (rows, _) = self.rows.as_chunks();
+        u64::from_be_bytes(rows[row])
     }
-    let row = row_at(table, search(table, key));
-    if row / 256 == key {
-        return Found::Operation((row % 256) as u8);
-    }
-    Found::Nothing
-}
 
-// The operation that a word names.
-pub fn operation(table: &[u8], word: &[u8]) -> Found
-    requires { keys.good_table table.now ≡ true }
-    ensures { result ≡ found_of (operation_named table.now word.now) }
-{
-    let key = word_key(word);
-    operation_by(table, key)
+    // The one row that may have the key. A table has at most 128 rows, which seven halvings bring down to one; they take no branch.
+    fn search(self, key: u64) -> usize
+        ensures { (result < rows_in self.entry.rows.now)
+            × ((k : ℕ) → k < rows_in self.entry.rows.now → keys.key_at self.entry.rows.now k ≡ key → k ≡ result) }
+    {
+        octets(self.rows);
+        // A key of 2^56 or more, which no row has, loses its first byte.
+        let most = key.wrapping_mul(256) + 255;
+        let mut row = 0;
+        let mut rows = self.rows.len() / 8;
+        for _halving in 0..7_u32 {
+            let mid = row + rows / 2;
+            if self.row(mid) <= most {
+                row = mid;
+            }
+            rows -= rows / 2;
+        }
+        row
+    }
+
+    // The operation of a key.
+    pub fn operation_by(self, key: u64) -> Option<u8>
+        ensures { result ≡ found_of (keys.operation_by self.entry.rows.now key) }
+    {
+        if key == 0 {
+            return None;
+        }
+        let row = self.row(self.search(key));
+        if row / 256 == key {
+            Some((row % 256) as u8)
+        } else {
+            None
+        }
+    }
+
+    // The operation that a word names.
+    pub fn operation(self, word: &[u8]) -> Option<u8>
+        ensures { result ≡ found_of (operation_named self.entry.rows.now word.now) }
+    {
+        self.operation_by(word_key(word))
+    }
 }
 
 // The register, segment or size of a key.
-pub fn name_by(key: u64) -> Name
+#[tactic(auto, unfolding(crate::specs::Keys::open_keys))]
+pub fn name_by(key: u64) -> Option<Name>
     ensures { result ≡ keys.name_by key }
 {
     match key {
-        0x61_6c00_0000_0000 => Name::Register(0), // al
-        0x63_6c00_0000_0000 => Name::Register(1), // cl
-        0x64_6c00_0000_0000 => Name::Register(2), // dl
-        0x62_6c00_0000_0000 => Name::Register(3), // bl
-        0x61_6800_0000_0000 => Name::Register(4), // ah
-        0x63_6800_0000_0000 => Name::Register(5), // ch
-        0x64_6800_0000_0000 => Name::Register(6), // dh
-        0x62_6800_0000_0000 => Name::Register(7), // bh
-        0x61_7800_0000_0000 => Name::Register(8), // ax
-        0x63_7800_0000_0000 => Name::Register(9), // cx
-        0x64_7800_0000_0000 => Name::Register(10), // dx
-        0x62_7800_0000_0000 => Name::Register(11), // bx
-        0x73_7000_0000_0000 => Name::Register(12), // sp
-        0x62_7000_0000_0000 => Name::Register(13), // bp
-        0x73_6900_0000_0000 => Name::Register(14), // si
-        0x64_6900_0000_0000 => Name::Register(15), // di
-        0x65_7300_0000_0000 => Name::Segment(0), // es
-        0x63_7300_0000_0000 => Name::Segment(1), // cs
-        0x73_7300_0000_0000 => Name::Segment(2), // ss
-        0x64_7300_0000_0000 => Name::Segment(3), // ds
-        0x62_7974_6500_0000 => Name::Size(0), // byte
-        0x77_6f72_6400_0000 => Name::Size(1), // word
-        _ => Name::Other,
+        0x61_6c00_0000_0000 => Some(Name::Register(0)), // al
+        0x63_6c00_0000_0000 => Some(Name::Register(1)), // cl
+        0x64_6c00_0000_0000 => Some(Name::Register(2)), // dl
+        0x62_6c00_0000_0000 => Some(Name::Register(3)), // bl
+        0x61_6800_0000_0000 => Some(Name::Register(4)), // ah
+        0x63_6800_0000_0000 => Some(Name::Register(5)), // ch
+        0x64_6800_0000_0000 => Some(Name::Register(6)), // dh
+        0x62_6800_0000_0000 => Some(Name::Register(7)), // bh
+        0x61_7800_0000_0000 => Some(Name::Register(8)), // ax
+        0x63_7800_0000_0000 => Some(Name::Register(9)), // cx
+        0x64_7800_0000_0000 => Some(Name::Register(10)), // dx
+        0x62_7800_0000_0000 => Some(Name::Register(11)), // bx
+        0x73_7000_0000_0000 => Some(Name::Register(12)), // sp
+        0x62_7000_0000_0000 => Some(Name::Register(13)), // bp
+        0x73_6900_0000_0000 => Some(Name::Register(14)), // si
+        0x64_6900_0000_0000 => Some(Name::Register(15)), // di
+        0x65_7300_0000_0000 => Some(Name::Segment(0)), // es
+        0x63_7300_0000_0000 => Some(Name::Segment(1)), // cs
+        0x73_7300_0000_0000 => Some(Name::Segment(2)), // ss
+        0x64_7300_0000_0000 => Some(Name::Segment(3)), // ds
+        0x62_7974_6500_0000 => Some(Name::Size(0)), // byte
+        0x77_6f72_6400_0000 => Some(Name::Size(1)), // word
+        _ => None,
     }
 }
 
 // The register, segment or size that a word names.
-pub fn name_of(word: &[u8]) -> Name
+pub fn name_of(word: &[u8]) -> Option<Name>
     ensures { result ≡ name_of word.now }
 {
-    let key = word_key(word);
-    name_by(key)
+    name_by(word_key(word))
 }
 
 // The directive of a key.
-pub fn directive_by(key: u64) -> Directive
+#[tactic(auto, unfolding(crate::specs::Keys::open_keys))]
+pub fn directive_by(key: u64) -> Option<Directive>
     ensures { result ≡ keys.directive_by key }
 {
     match key {
-        0x65_7175_0000_0000 => Directive::Equ, // equ
-        0x64_6200_0000_0000 => Directive::Db, // db
-        0x64_7700_0000_0000 => Directive::Dw, // dw
-        0x74_696d_6573_0000 => Directive::Times, // times
-        _ => Directive::Other,
+        0x65_7175_0000_0000 => Some(Directive::Equ), // equ
+        0x64_6200_0000_0000 => Some(Directive::Db), // db
+        0x64_7700_0000_0000 => Some(Directive::Dw), // dw
+        0x74_696d_6573_0000 => Some(Directive::Times), // times
+        _ => None,
     }
 }
 
 // The directive that a word names.
-pub fn directive_of(word: &[u8]) -> Directive
+pub fn directive_of(word: &[u8]) -> Option<Directive>
     ensures { result ≡ directive_of word.now }
 {
-    let key = word_key(word);
-    directive_by(key)
+    directive_by(word_key(word))
 }

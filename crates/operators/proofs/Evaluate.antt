@@ -1,23 +1,24 @@
--- Sums, differences, products and quotients of numbers of 32 bits fit 64, so they are exact, and the tests of the range decide 50.
--- Assumes nothing.
-use Prim.Native.Nat.{ℕ, zero, suc, ◌+◌, ◌*◌, ◌/◌, ◌≤◌, ◌<◌}
-use mathlib.Core.Path.{◌≡◌, refl, sym, ap, subst, ◌∙◌}
+-- A checked result is the exact one where it fits 32 signed bits, which decides 50.
+use Prim.Native.Nat.{◌≤◌}
+use mathlib.Core.Path.{◌≡◌, refl, ap}
 use mathlib.Core.Bool.{Bool, true, false}
 use native.Mathlib.Omega.{arith}
-use native.Mathlib.Nat.{mul-le-mul, div-le_self}
-use borrow.Author.Tests.{ltb-true, ltb-false, lt-ltb, le-ltb, ne_eqb}
+use borrow.Author.Tests.{ltb-true, lt-ltb, ne_eqb}
 use lib.Dec.{eqb, ltb}
-use lib.IntN.{ℤ, pos, negsuc, neg_ℤ, nat_abs, sub_ℕ, ◌+ℤ◌, ◌-ℤ◌, ◌*ℤ◌}
-use lib.Signed.{mag, lt_z, quot_z}
-use mir.Syntax.{w32, w64}
+use lib.IntN.{ℤ, pos, negsuc, nat_abs}
+use lib.Signed.{mag, quot_z}
+use mir.Syntax.{w32}
 use mir.Val.{SFits, to_z, of_z}
-use mir.Facts.{to_z-of_z, sfits_widen}
+use mir.Facts.{to_z-of_z}
+use Rattle.std.specs.Prelude.{if◌then◌else◌, Option, None, Some, ok_or, SomeIff, int_div}
+use Rattle.std.specs.Int.{CanDivide}
 use Rattle.rules.specs.Reader.{nowhere}
-use Rattle.rules.specs.Calls.{gives, refuses}
+use Rattle.rules.specs.Calls.{gives, refuses, unless}
 use Rattle.rules.specs.Evaluate.{signed32}
+use Rattle.operators.specs.declared.EvaluateError.TheVariants.{Beyond32Bits}
 use Rattle.operators.specs.declared.Operator.TheVariants.{Add, Subtract, Multiply, Divide}
 use Rattle.operators.specs.declared.Operator.{Operator}
-use Rattle.operators.specs.Operators.{operator_number, OperatorsFour}
+use Rattle.operators.specs.Operators.{operator_number, OperatorsFour, result_of}
 
 -- no operator has another number than 0 to 3
 operator_low : (op : Operator) → operator_number op ≤ 3
@@ -29,123 +30,44 @@ operator_low Divide = omega arith
 pub operators_four : OperatorsFour
 operators_four = record { below = operator_low }
 
--- how large a result is
-mag_neg : (z : ℤ) → mag (neg_ℤ z) ≤ suc (mag z)
-mag_neg (pos zero) = omega arith
-mag_neg (pos (suc n)) = omega arith
-mag_neg (negsuc n) = omega arith
-
-mag_sub : (a b : ℕ) → mag (sub_ℕ a b) ≤ a + b
-mag_sub a b = go (ltb a b) refl
+pub checked : (z : ℤ) (o : Option ℤ) → SomeIff o (SFits w32 z) z → result_of (ok_or o Beyond32Bits) ≡ signed32 z
+unfolding signed32
+checked z None n = by (ltb (mag z) 2147483648) refl
   where
-    go : (t : Bool) → ltb a b ≡ t → mag (sub_ℕ a b) ≤ a + b
-    go true e = rw e (omega arith)
-    go false e = rw e (omega arith)
+    by : (b : Bool) → ltb (mag z) 2147483648 ≡ b → refuses (nowhere 50) ≡ (if b then (gives z) else (refuses (nowhere 50)))
+    by true e = absurd (n (record { sfits = ltb-true (mag z) 2147483648 e }))
+    by false e = refl
+checked z (Some x) p = rw (lt-ltb (mag z) 2147483648 p.0.sfits) (ap gives p.1)
 
-mag_add : (a b : ℤ) → mag (a +ℤ b) ≤ suc (mag a + mag b)
-mag_add (pos a) (pos b) = omega arith
-mag_add (pos a) (negsuc b) = omega (arith, mag_sub a (suc b))
-mag_add (negsuc a) (pos b) = omega (arith, mag_sub b (suc a))
-mag_add (negsuc a) (negsuc b) = omega arith
+-- a number as the machine holds it
+abbrev held : ℤ → ℤ
+held z = to_z w32 (of_z w32 z)
 
-mag_minus : (n : ℕ) → mag (neg_ℤ (pos n)) ≤ n
-mag_minus zero = omega arith
-mag_minus (suc n) = omega arith
-
-mag_mul : (a b : ℤ) → mag (a *ℤ b) ≤ suc (mag a) * suc (mag b)
-mag_mul (pos a) (pos b) = mul-le-mul (omega arith) (omega arith)
-mag_mul (pos a) (negsuc b) = let h : a * suc b ≤ suc a * suc b = mul-le-mul (omega arith) (omega arith) in omega (arith, mag_minus (a * suc b))
-mag_mul (negsuc a) (pos b) = let h : suc a * b ≤ suc a * suc b = mul-le-mul (omega arith) (omega arith) in omega (arith, mag_minus (suc a * b))
-mag_mul (negsuc a) (negsuc b) = omega arith
-
-mag_quot : (a b : ℤ) → mag (quot_z a b) ≤ suc (mag a)
-mag_quot (pos a) (pos b) = omega (arith, div-le_self a b)
-mag_quot (pos a) (negsuc b) = omega (arith, mag_minus (a / suc b), div-le_self a (suc b))
-mag_quot (negsuc a) (pos b) = omega (arith, mag_minus (suc a / b), div-le_self (suc a) b)
-mag_quot (negsuc a) (negsuc b) = omega (arith, div-le_self (suc a) (suc b))
-
-module _ (a b : ℤ) (f : SFits w32 a) (g : SFits w32 b) where
-  pub sum_fits : SFits w64 (a +ℤ b)
-  sum_fits = record { sfits = omega (arith, mag_add a b, f.sfits, g.sfits) }
-
-  pub difference_fits : SFits w64 (a -ℤ b)
-  difference_fits = record { sfits = omega (arith, mag_add a (neg_ℤ b), mag_neg b, f.sfits, g.sfits) }
-
-  pub product_fits : SFits w64 (a *ℤ b)
-  product_fits =
-      let m : suc (mag a) ≤ 2147483648 = f.sfits in
-      let n : suc (mag b) ≤ 2147483648 = g.sfits in
-      let h : suc (mag a) * suc (mag b) ≤ 2147483648 * 2147483648 = mul-le-mul m n in
-      record { sfits = omega (arith, mag_mul a b) }
-
-  pub quotient_fits : SFits w64 (quot_z a b)
-  quotient_fits = record { sfits = omega (arith, mag_quot a b, f.sfits) }
-
--- a number of 32 bits as the machine holds it in 64
-abbrev wide : ℤ → ℤ
-wide z = to_z w64 (of_z w64 (to_z w32 (of_z w32 z)))
-
-module _ {z : ℤ} (f : SFits w32 z) where
-  pub widens : SFits w64 (to_z w32 (of_z w32 z))
-  widens = subst (SFits w64) (sym (to_z-of_z f)) (sfits_widen tt f)
-
-  wide_is : wide z ≡ z
-  wide_is = to_z-of_z widens ∙ to_z-of_z f
-
-  bits_are : of_z w64 (to_z w32 (of_z w32 z)) ≡ of_z w64 z
-  bits_are = ap (of_z w64) (to_z-of_z f)
-
--- an operation on such numbers, whose results fit
-module _ (op : ℤ → ℤ → ℤ) (fits : (a b : ℤ) → SFits w32 a → SFits w32 b → SFits w64 (op a b)) {a b : ℤ} (f : SFits w32 a) (g : SFits w32 b) where
-  pub op_fits : SFits w64 (op (wide a) (wide b))
-  op_fits = subst (λ (x : ℤ). SFits w64 (op x (wide b))) (sym (wide_is f)) (subst (λ (y : ℤ). SFits w64 (op a y)) (sym (wide_is g)) (fits a b f g))
-
-  pub op_is : to_z w64 (of_z w64 (op (wide a) (wide b))) ≡ op a b
-  op_is = to_z-of_z op_fits ∙ ap (λ (x : ℤ). op x (wide b)) (wide_is f) ∙ ap (op a) (wide_is g)
+-- the same of an operation on numbers as the machine holds them
+module _ (op : ℤ → ℤ → ℤ) {a b : ℤ} (f : SFits w32 a) (g : SFits w32 b) where
+  pub exact : (o : Option ℤ) → SomeIff o (SFits w32 (op (held a) (held b))) (op (held a) (held b)) → result_of (ok_or o Beyond32Bits) ≡ signed32 (op a b)
+  exact o h = checked (op a b) o (rw (to_z-of_z f, to_z-of_z g) at h)
 
 -- a divisor
-zero_bits : (z : ℤ) → SFits w32 z → of_z w64 z ≡ 0 → nat_abs z ≡ 0
-zero_bits (pos n) f e = e
-zero_bits (negsuc n) f e = absurd (omega (arith, f.sfits))
+zero_abs : (z : ℤ) → SFits w32 z → of_z w32 z ≡ 0 → nat_abs z ≡ 0
+zero_abs (pos n) f e = e
+zero_abs (negsuc n) f e = absurd (omega (arith, f.sfits))
 
-bits_zero : (z : ℤ) → nat_abs z ≡ 0 → of_z w64 z ≡ 0
-bits_zero (pos n) e = e
-bits_zero (negsuc n) e = absurd (omega arith)
+abs_zero : (z : ℤ) → nat_abs z ≡ 0 → of_z w32 z ≡ 0
+abs_zero (pos n) e = e
+abs_zero (negsuc n) e = absurd (omega arith)
 
-module _ {z : ℤ} (f : SFits w32 z) where
-  pub divisor_zero : of_z w64 (to_z w32 (of_z w32 z)) ≡ 0 → eqb (nat_abs z) 0 ≡ true
-  divisor_zero e = rw (zero_bits z f (sym (bits_are f) ∙ e))
+-- a quotient by one that is not 0
+quotient : (a b : ℤ) → (of_z w32 b ≡ 0 → ⊥) → (o : Option ℤ) → SomeIff o (CanDivide w32 a b) (int_div a b) → SomeIff o (SFits w32 (quot_z a b)) (quot_z a b)
+quotient a b n None h = λ s. h (omega arith, s)
+quotient a b n (Some x) h = (h.0.1, h.1)
 
-  module _ (e : of_z w64 (to_z w32 (of_z w32 z)) ≡ 0 → ⊥) where
-    pub divisor_other : eqb (nat_abs z) 0 ≡ false
-    divisor_other = ne_eqb (nat_abs z) 0 (λ d. e (bits_are f ∙ bits_zero z d))
+module _ {a b : ℤ} (f : SFits w32 a) (g : SFits w32 b) where
+  pub undivided : of_z w32 b ≡ 0 → refuses (nowhere 51) ≡ unless (eqb (nat_abs b) 0) (nowhere 51) (signed32 (quot_z a b))
+  unfolding unless
+  undivided e = rw (zero_abs b g e) refl
 
-    pub divisor_positive : 0 < of_z w64 (to_z w32 (of_z w32 z))
-    divisor_positive = go (of_z w64 (to_z w32 (of_z w32 z))) e
-      where
-        go : (n : ℕ) → (n ≡ 0 → ⊥) → 0 < n
-        go zero h = absurd (h refl)
-        go (suc n) h = omega arith
-
--- the range
-pub low : (z : ℤ) → lt_z z (negsuc 2147483647) ≡ true → signed32 z ≡ refuses (nowhere 50)
-unfolding signed32
-low (pos n) e = cc
-low (negsuc n) e = let h : 2147483647 < n = ltb-true _ _ e in rw (le-ltb n 2147483648 h)
-
-pub high : (z : ℤ) → lt_z (pos 2147483647) z ≡ true → signed32 z ≡ refuses (nowhere 50)
-unfolding signed32
-high (pos n) e = let h : 2147483647 < n = ltb-true _ _ e in rw (le-ltb n 2147483648 h)
-high (negsuc n) e = cc
-
-between : (z : ℤ) → lt_z z (negsuc 2147483647) ≡ false → lt_z (pos 2147483647) z ≡ false → mag z < 2147483648
-between (pos n) e f = let h : n ≤ 2147483647 = ltb-false _ _ f in omega arith
-between (negsuc n) e f = let h : n ≤ 2147483647 = ltb-false _ _ e in omega arith
-
-module _ {z : ℤ} (e : lt_z z (negsuc 2147483647) ≡ false) (f : lt_z (pos 2147483647) z ≡ false) where
-  pub fits_32 : SFits w32 z
-  fits_32 = record { sfits = between z e f }
-
-  pub within : signed32 z ≡ gives z
-  unfolding signed32
-  within = rw (lt-ltb (mag z) 2147483648 (between z e f))
+  pub divided : (of_z w32 b ≡ 0 → ⊥) → (o : Option ℤ) → SomeIff o (CanDivide w32 (held a) (held b)) (int_div (held a) (held b))
+      → result_of (ok_or o Beyond32Bits) ≡ unless (eqb (nat_abs b) 0) (nowhere 51) (signed32 (quot_z a b))
+  unfolding unless
+  divided n o h = rw (ne_eqb (nat_abs b) 0 (λ e. n (abs_zero b e))) (checked (quot_z a b) o (quotient a b n o (rw (to_z-of_z f, to_z-of_z g) at h)))

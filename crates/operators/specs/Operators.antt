@@ -1,14 +1,13 @@
 -- The declared operators and the answers of their functions, in the numbers of RULES 8.3 and 11.1.
-use Rattle.std.specs.Prelude.{ℕ, ◌≤◌, ℤ, ltb, if◌then◌else◌}
+use Rattle.std.specs.Prelude.{◌≡◌, ℕ, ◌≤◌, ◌<◌, ℤ, ltb, if◌then◌else◌, Option, None, Some, Result as Answer, Ok, Err}
 use Rattle.rules.specs.Reader.{nowhere}
 use Rattle.rules.specs.Calls.{Result, gives, refuses}
 use Rattle.rules.specs.Expressions.{prefix_level}
 use Rattle.operators.specs.declared.Operator.{Operator}
 use Rattle.operators.specs.declared.Operator.TheVariants.{Add, Subtract, Multiply, Divide}
-use Rattle.operators.specs.declared.PrefixLevel.{PrefixLevel}
-use Rattle.operators.specs.declared.PrefixLevel.TheVariants.{Level, Invalid}
-use Rattle.operators.specs.declared.Evaluated.{Evaluated}
-use Rattle.operators.specs.declared.Evaluated.TheVariants.{Value, Beyond, ZeroDivisor}
+use Rattle.operators.specs.declared.UnknownOperator.{UnknownOperator}
+use Rattle.operators.specs.declared.EvaluateError.{EvaluateError}
+use Rattle.operators.specs.declared.EvaluateError.TheVariants.{Beyond32Bits, ZeroDivisor}
 
 abbrev pub operator_number : Operator → ℕ
 operator_number Add = 0
@@ -20,12 +19,17 @@ operator_number Divide = 3
 pub record OperatorsFour : Type 0 where
   pub below : (op : Operator) → operator_number op ≤ 3
 
+-- The operator that has a number, or none has it.
+abbrev pub Numbers : ℕ → Answer Operator UnknownOperator → Type 0
+Numbers n (Ok op) = operator_number op ≡ n
+Numbers n (Err e) = 3 < n
+
 -- Only `+` and `-` stand before an operand.
-abbrev pub prefix_level_of : Operator → PrefixLevel
-prefix_level_of op = if ltb (operator_number op) 2 then (Level prefix_level) else Invalid
+abbrev pub prefix_level_of : Operator → Option ℕ
+prefix_level_of op = if ltb (operator_number op) 2 then (Some prefix_level) else None
 
 -- 50: beyond 32 signed bits; 51: zero divisor.
-abbrev pub result_of : Evaluated → Result ℤ
-result_of (Value z) = gives z
-result_of Beyond = refuses (nowhere 50)
-result_of ZeroDivisor = refuses (nowhere 51)
+abbrev pub result_of : Answer ℤ EvaluateError → Result ℤ
+result_of (Ok z) = gives z
+result_of (Err Beyond32Bits) = refuses (nowhere 50)
+result_of (Err ZeroDivisor) = refuses (nowhere 51)

@@ -3,29 +3,43 @@
 
 ghost use Rattle.std.specs.Prelude.{◌≡◌};
 ghost use Rattle.rules.specs.Expressions as rules;
-ghost use Rattle.rules.specs.Evaluate.{signed32, evaluate as exactly};
-ghost use Rattle.operators.specs.Operators.{operator_number, prefix_level_of, result_of};
+ghost use Rattle.rules.specs.Evaluate.{evaluate as exactly};
+ghost use Rattle.operators.specs.Operators.{operator_number, prefix_level_of, result_of, Numbers};
 
-#[derive(Clone, Copy)]
+// The numbers are those that PF and IN have.
+#[derive(Clone, Copy, PartialEq, Eq)]
 pub enum Operator {
-    Add,
-    Subtract,
-    Multiply,
-    Divide,
+    Add = 0,
+    Subtract = 1,
+    Multiply = 2,
+    Divide = 3,
 }
 
-#[derive(Clone, Copy)]
-pub enum PrefixLevel {
-    Level(u8),
-    Invalid,
-}
+// A number that no operator has.
+#[derive(Clone, Copy, PartialEq, Eq)]
+pub struct UnknownOperator;
 
 // Beyond 32 signed bits (50); a divisor of 0 (51).
-#[derive(Clone, Copy)]
-pub enum Evaluated {
-    Value(i32),
-    Beyond,
+#[derive(Clone, Copy, PartialEq, Eq)]
+pub enum EvaluateError {
+    Beyond32Bits,
     ZeroDivisor,
+}
+
+impl TryFrom<u8> for Operator {
+    type Error = UnknownOperator;
+
+    ghost try_from_gives = { Numbers };
+
+    fn try_from(number: u8) -> Result<Self, UnknownOperator> {
+        match number {
+            0 => Ok(Operator::Add),
+            1 => Ok(Operator::Subtract),
+            2 => Ok(Operator::Multiply),
+            3 => Ok(Operator::Divide),
+            _ => Err(UnknownOperator),
+        }
+    }
 }
 
 impl Operator {
@@ -36,26 +50,24 @@ impl Operator {
     const PREFIX: u8 = 5;
 
     // How tightly an operator between two operands binds; its right operand binds one tighter.
+    #[tactic(auto, unfolding(rules::specs::Expressions::left_level))]
     pub fn infix_level(self) -> u8
         ensures { result ≡ rules.left_level (operator_number self) }
     {
         match self {
-            Operator::Add => Self::SUM,
-            Operator::Subtract => Self::SUM,
-            Operator::Multiply => Self::PRODUCT,
-            Operator::Divide => Self::PRODUCT,
+            Operator::Add | Operator::Subtract => Self::SUM,
+            Operator::Multiply | Operator::Divide => Self::PRODUCT,
         }
     }
 
     // Before an operand only `+` and `-` stand; they bind tightest.
-    pub fn prefix_level(self) -> PrefixLevel
+    #[tactic(auto, unfolding(rules::specs::Expressions::prefix_level))]
+    pub fn prefix_level(self) -> Option<u8>
         ensures { result ≡ prefix_level_of self }
     {
         match self {
-            Operator::Add => PrefixLevel::Level(Self::PREFIX),
-            Operator::Subtract => PrefixLevel::Level(Self::PREFIX),
-            Operator::Multiply => PrefixLevel::Invalid,
-            Operator::Divide => PrefixLevel::Invalid,
+            Operator::Add | Operator::Subtract => Some(Self::PREFIX),
+            Operator::Multiply | Operator::Divide => None,
         }
     }
 
@@ -63,44 +75,20 @@ impl Operator {
     pub fn number(self) -> u32
         ensures { result ≡ operator_number self }
     {
-        match self {
-            Operator::Add => 0,
-            Operator::Subtract => 1,
-            Operator::Multiply => 2,
-            Operator::Divide => 3,
-        }
+        self as u32
     }
 
     // The exact result; a quotient is truncated toward zero.
-    pub fn evaluate(self, left: i32, right: i32) -> Evaluated
+    pub fn evaluate(self, left: i32, right: i32) -> Result<i32, EvaluateError>
         ensures { result_of result ≡ exactly (operator_number self) left right }
     {
-        let a = left as i64;
-        let b = right as i64;
-        match self {
-            Operator::Add => in_range(a + b),
-            Operator::Subtract => in_range(a - b),
-            Operator::Multiply => in_range(a * b),
-            Operator::Divide => {
-                if b == 0 {
-                    Evaluated::ZeroDivisor
-                } else {
-                    in_range(a / b)
-                }
-            }
-        }
+        let value = match self {
+            Operator::Add => left.checked_add(right),
+            Operator::Subtract => left.checked_sub(right),
+            Operator::Multiply => left.checked_mul(right),
+            Operator::Divide if right == 0 => return Err(EvaluateError::ZeroDivisor),
+            Operator::Divide => left.checked_div(right),
+        };
+        value.ok_or(EvaluateError::Beyond32Bits)
     }
-}
-
-// A result of 32 signed bits.
-fn in_range(v: i64) -> Evaluated
-    ensures { result_of result ≡ signed32 v }
-{
-    if v < -2147483648 {
-        return Evaluated::Beyond;
-    }
-    if 2147483647 < v {
-        return Evaluated::Beyond;
-    }
-    Evaluated::Value(v as i32)
 }

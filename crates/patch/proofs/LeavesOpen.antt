@@ -11,13 +11,13 @@ use Rattle.rules.specs.Calls.{Result, gives, refuses, full_read}
 use Rattle.rules.specs.Patch.{is_open, leaves_open}
 use Rattle.rules.proofs.Alone.{open_any_room}
 use Rattle.refusals.specs.declared.Refusal.{Refusal}
-use Rattle.reader.specs.declared.FullAnswer.{FullAnswer}
-use Rattle.reader.specs.declared.FullAnswer.TheVariants.{Written, Refused}
+use Rattle.std.specs.Prelude.{Result as Answer, Ok, Err}
+use Rattle.refusals.specs.Refusals.{Numbers, number_of, by_numbers}
 use Rattle.reader.specs.Calls.{full_answer}
 
-abbrev answers_open : FullAnswer → Bool
-answers_open (Written n) = false
-answers_open (Refused r) = eqb r.number 34
+abbrev answers_open : Answer ℕ Numbers → Bool
+answers_open (Ok n) = false
+answers_open (Err r) = eqb r.number 34
 
 answer_tells : (x : Result (List Record)) → answers_open (full_answer x) ≡ is_open x
 unfolding is_open
@@ -25,8 +25,11 @@ answer_tells (gives w) = refl
 answer_tells (refuses c) = refl
 
 module _ (l : List ℕ) (room : ℕ) where
-  pub open_denied : {r : Refusal} → Refused r ≡ full_answer (full_read present l room) → eqb r.number 34 ≡ leaves_open present l
-  open_denied e = (λ i. answers_open (e i)) ∙ answer_tells (full_read present l room) ∙ open_any_room present l room
+  open_by : (r : Answer ℕ Refusal) → by_numbers r ≡ full_answer (full_read present l room) → answers_open (by_numbers r) ≡ leaves_open present l
+  open_by r e = (λ i. answers_open (e i)) ∙ answer_tells (full_read present l room) ∙ open_any_room present l room
 
-  pub open_accepted : {n : ℕ} → Written n ≡ full_answer (full_read present l room) → false ≡ leaves_open present l
-  open_accepted e = (λ i. answers_open (e i)) ∙ answer_tells (full_read present l room) ∙ open_any_room present l room
+  pub open_denied : (r : Refusal) → by_numbers {A = ℕ} (Err r) ≡ full_answer (full_read present l room) → {b : Bool} → b ≡ eqb (number_of r.reason) 34 → b ≡ leaves_open present l
+  open_denied r e k = k ∙ open_by (Err r) e
+
+  pub open_accepted : {n : ℕ} → by_numbers (Ok n) ≡ full_answer (full_read present l room) → false ≡ leaves_open present l
+  open_accepted {n} e = open_by (Ok n) e

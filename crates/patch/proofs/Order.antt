@@ -1,6 +1,6 @@
 -- The whole patch by its steps: 42, 43, 1, 2, 41, 40, and what the rest gives; and demand 3 for it.
 -- Assumes nothing.
-use Prim.Native.Nat.{ℕ, ◌+◌, ◌-◌, ◌≤◌, ◌<◌}
+use Prim.Native.Nat.{ℕ, ◌-◌, ◌≤◌, ◌<◌}
 use mathlib.Core.Path.{◌≡◌, refl, sym, ap, ◌∙◌}
 use mathlib.Core.Bool.{Bool, true, false, ◌||◌, true≢false}
 use mathlib.Core.Logic.{⊎_elim}
@@ -24,13 +24,14 @@ use Rattle.rules.specs.Patch.{begins_line, above, line_at, behind, edited, lines
 use Rattle.rules.proofs.Table.{proper}
 use Rattle.rules.proofs.Demand3.{edits, demand_3}
 use Rattle.checker.specs.Checker.{well_formed_bytes}
-use Rattle.reader.specs.declared.Lent.TheVariants as lending
-use Rattle.reader.specs.Lent.{foreign_place, lent_of}
-use Rattle.reader.specs.Calls.{full_answer}
+use Rattle.std.specs.Prelude.{Result as Answer, Ok, Err}
+use Rattle.reader.specs.declared.ascii.Ascii.{Ascii}
+use Rattle.reader.specs.Calls.{full_answer, Lends}
 use Rattle.reader.proofs.Lending.{lent_refused, lent_accepted}
 use Rattle.refusals.specs.declared.Refusal.{Refusal}
-use Rattle.patch.specs.declared.PatchAnswer.{PatchAnswer}
-use Rattle.patch.specs.declared.PatchAnswer.TheVariants.{Refused}
+use Rattle.refusals.specs.Refusals.{by_numbers}
+use Rattle.patch.specs.declared.Exchange.{Exchange}
+use Rattle.patch.specs.declared.Patched.{Patched}
 use Rattle.records.specs.Moves.{records_at, Decodes}
 use Rattle.patch.specs.Patched.{patch_answer, Patches, as_patch, AsFullRead}
 use Rattle.lines.proofs.Laws.{begins_within, feed_among}
@@ -54,8 +55,8 @@ module _ (ed : List ℕ) where
   listings (gives w) l = refl
   listings (refuses c) l = refl
 
-pub as_full_read : {old bytes : List ℕ} {a : ℕ} {new s s' l l' : List ℕ} {r : PatchAnswer} → Patches (patch present old bytes a new (length s) (length l)) s s' l l' r
-    → AsFullRead (λ x. x) old bytes a new s s' l l' r
+pub as_full_read : {old bytes : List ℕ} {a : ℕ} {new s s' l l' : List ℕ} {r : Answer Patched Refusal} → Patches (patch present old bytes a new (length s) (length l)) s s' l l' r
+    → AsFullRead (λ x. x) old bytes a new s s' l l' (by_numbers r)
 unfolding full_buffer
 as_full_read {old} {bytes} {a} {new} {s} {l = l} p = record {
   so = λ d.
@@ -67,9 +68,9 @@ as_full_read {old} {bytes} {a} {new} {s} {l = l} p = record {
 }
 
 -- The clauses of the contract.
-pub clauses : {old bytes : List ℕ} {a : ℕ} {new s s' l l' : List ℕ} {r : PatchAnswer} → Patches (patch present old bytes a new (length s) (length l)) s s' l l' r
-    → (r ≡ patch_answer (patch present old bytes a new (length s) (length l))) × ((s' ≡ patch_source (patch present old bytes a new (length s) (length l)) s) × ((l' ≡ patch_listing (patch present old bytes a new (length s) (length l)) l)
-    × AsFullRead (λ x. x) old bytes a new s s' l l' r))
+pub clauses : {old bytes : List ℕ} {a : ℕ} {new s s' l l' : List ℕ} {r : Answer Patched Refusal} → Patches (patch present old bytes a new (length s) (length l)) s s' l l' r
+    → (by_numbers r ≡ patch_answer (patch present old bytes a new (length s) (length l))) × ((s' ≡ patch_source (patch present old bytes a new (length s) (length l)) s) × ((l' ≡ patch_listing (patch present old bytes a new (length s) (length l)) l)
+    × AsFullRead (λ x. x) old bytes a new s s' l l' (by_numbers r)))
 clauses p = (p.answer, (p.source, (p.listing, as_full_read p)))
 
 pub both_short : (n m : ℕ) → (ltb 65536 n || ltb 65536 m) ≡ false → (n ≤ 65536) × (m ≤ 65536)
@@ -125,36 +126,30 @@ module _ (ed : List ℕ) (short : length ed ≤ 65536) (x : Result Edit) where
   unfolding lent unless too_long most_bytes
   lent_ascii = rw (le-ltb 65536 (length ed) short)
 
-  foreign_denied : {r : Refusal} {s l : List ℕ} → lending.Refused r ≡ lent_of ed → Patches (ascii ed x) s s l l (Refused r)
-  foreign_denied e = let (c, f, k) = lent_refused ed x e in refused c (sym lent_ascii ∙ f) k
-
-  plain_ascii : lending.Accepted ≡ lent_of ed → (ascii ed x ≡ x) × (foreign_place ed ≡ length ed)
-  plain_ascii e = let (i, j, k) = lent_accepted ed x e in (sym lent_ascii ∙ i, k)
-
 -- the edited source at the head of a room that is large enough
-module _ (old : List ℕ) (a : ℕ) (new : List ℕ) (h : a ≤ length old) (room : List ℕ) {end n : ℕ} {room' : List ℕ} (e : end ≡ a + length (line_at old a)) (k : n ≡ length (edited old a new)) (short : n ≤ 65536)
-    (f : room' ≡ overwrite (take a old ++ (new ++ drop end old)) room) where
-  pub edit_taken : take (n - 0) room' ≡ edited old a new
+module _ (x : Exchange) (room : List ℕ) {n : ℕ} {room' : List ℕ} (k : n ≡ length (edited x.old.now x.place x.text.now)) (short : n ≤ 65536)
+    (f : room' ≡ overwrite (take x.place x.old.now ++ (x.text.now ++ drop x.end x.old.now)) room) where
+  abbrev ed : List ℕ
+  ed = edited x.old.now x.place x.text.now
+
+  edit_taken : take n room' ≡ ed
   unfolding overwrite
   edit_taken =
-      let z : n - 0 ≡ n = omega arith in
-      ap (λ (m : ℕ). take m room') z ∙ ap (take n) (f ∙ ap (λ (b : List ℕ). overwrite b room) (edited_is old a h e new)) ∙ take_at (edited old a new) (drop (length (edited old a new)) room) n (sym k)
+      ap (take n) (f ∙ ap (λ (b : List ℕ). overwrite b room) (edited_is x.old.now x.place (begins_within x.old.now x.place x.begins) x.ends x.text.now))
+      ∙ take_at ed (drop (length ed) room) n (sym k)
 
-  pub edit_short : length (take (n - 0) room') ≤ 65536
-  edit_short = omega (arith, ap length edit_taken)
+  ascii_so : {c : Result Edit} (y : Result Edit) → lent (take n room') y ≡ c → ascii ed y ≡ c
+  ascii_so y e = sym (lent_ascii ed (omega arith) y) ∙ ap (λ (s : List ℕ). lent s y) (sym edit_taken) ∙ e
 
-  edited_short : length (edited old a new) ≤ 65536
-  edited_short = omega arith
+  pub edit_denied : {r : Refusal} (y : Result Edit) (s l : List ℕ) → Lends (take n room') (Err r) → Patches (ascii ed y) s s l l (Err r)
+  edit_denied y s l d = let (c, e, i) = lent_refused (take n room') y d in refused c (ascii_so y e) i
 
-  pub edit_denied : {r : Refusal} (x : Result Edit) (s l : List ℕ) → lending.Refused r ≡ lent_of (take (n - 0) room') → Patches (ascii (edited old a new) x) s s l l (Refused r)
-  edit_denied x s l d = foreign_denied (edited old a new) edited_short x (d ∙ ap lent_of edit_taken)
+  module _ {v : Ascii} (d : Lends (take n room') (Ok v)) where
+    pub edit_is : v.source.text.now ≡ ed
+    edit_is = d.so.1 ∙ edit_taken
 
-  module _ (d : lending.Accepted ≡ lent_of (take (n - 0) room')) where
-    pub edit_plain : foreign_place (take (n - 0) room') ≡ length (take (n - 0) room')
-    edit_plain = rw edit_taken (plain_ascii (edited old a new) edited_short (refuses (nowhere 0)) (d ∙ ap lent_of edit_taken)).1
-
-    pub edit_ascii : (x : Result Edit) → ascii (edited old a new) x ≡ x
-    edit_ascii x = (plain_ascii (edited old a new) edited_short x (d ∙ ap lent_of edit_taken)).0
+    pub edit_ascii : (y : Result Edit) → ascii ed y ≡ y
+    edit_ascii y = ascii_so y (lent_accepted (take n room') y d).0
 
 -- 41 and 40, and neither.
 module _ (old bytes : List ℕ) (a : ℕ) (new : List ℕ) (room_s room_l : ℕ) where
@@ -169,42 +164,44 @@ module _ (old bytes : List ℕ) (a : ℕ) (new : List ℕ) (room_s room_l : ℕ)
       go none e = refl
       go (some rs) e = rw e
 
-  -- what well-formed bytes say
-  pub record Formed : Type 0 where
-    pub decodes : Decodes bytes 0
-    pub so : inner (decode bytes) ≡ unless (open_line present old a new) (nowhere 40) (reread old (records_at bytes 0) a new room_s room_l (read_from present a (new ++ take 1 (behind old a))))
+  module _ (h : well_formed_bytes bytes (length old) ≡ true) where
+    abbrev rest : Result Edit
+    rest = reread old (records_at bytes 0) a new room_s room_l (read_from present a (new ++ take 1 (behind old a)))
 
-  pub well_formed_lem : well_formed_bytes bytes (length old) ≡ true → Formed
-  unfolding well_formed_bytes patched unless records_at
-  well_formed_lem h = go (decode bytes) refl h
-    where
-      go : (o : Option (List Record)) → decode bytes ≡ o → maybe o false (well_formed (length old)) ≡ true → Formed
-      go none e k = absurd (true≢false (sym k))
-      go (some rs) e k = record { decodes = record { so = rw e }; so = rw (e, k) }
+    formed : Decodes bytes 0 × (inner (decode bytes) ≡ unless (open_line present old a new) (nowhere 40) rest)
+    unfolding well_formed_bytes patched unless records_at
+    formed = go (decode bytes) refl h
+      where
+        go : (o : Option (List Record)) → decode bytes ≡ o → maybe o false (well_formed (length old)) ≡ true → Decodes bytes 0 × (inner (decode bytes) ≡ unless (open_line present old a new) (nowhere 40) rest)
+        go none e k = absurd (true≢false (sym k))
+        go (some rs) e k = (record { so = rw e }, rw (e, k))
 
-  module _ (F : Formed) where
+    pub formed_decodes : Decodes bytes 0
+    formed_decodes = formed.0
+
     pub is_open_lem : open_line present old a new ≡ true → inner (decode bytes) ≡ refuses (nowhere 40)
     unfolding unless
-    is_open_lem h = F.so ∙ rw h
+    is_open_lem k = formed.1 ∙ rw k
 
-    pub is_closed : open_line present old a new ≡ false → inner (decode bytes) ≡ reread old (records_at bytes 0) a new room_s room_l (read_from present a (new ++ take 1 (behind old a)))
+    pub is_closed : open_line present old a new ≡ false → inner (decode bytes) ≡ rest
     unfolding unless
-    is_closed h = F.so ∙ rw h
+    is_closed k = formed.1 ∙ rw k
 
 -- 40 by its three lines.
-module _ (old : List ℕ) (a : ℕ) (new : List ℕ) (h : a ≤ length old) {end : ℕ} (e : end ≡ a + length (line_at old a)) {b : Bool} (i : b ≡ leaves_open present (take (end - a) (drop a old))) where
-  old_is : leaves_open present (line_at old a) ≡ b
-  old_is = ap (leaves_open present) (sym (line_slice old a h e)) ∙ sym i
+module _ (x : Exchange) {b : Bool} (i : b ≡ leaves_open present (take (x.end - x.place) (drop x.place x.old.now))) where
+  old_is : leaves_open present (line_at x.old.now x.place) ≡ b
+  old_is = ap (leaves_open present) (sym (line_slice x.old.now x.place (begins_within x.old.now x.place x.begins) x.ends)) ∙ sym i
 
-  pub old_open : b ≡ true → true ≡ open_line present old a new
+  pub old_open : b ≡ true → true ≡ open_line present x.old.now x.place x.text.now
   unfolding open_line
   old_open k = rw (old_is ∙ k)
 
-  module _ (k : b ≡ false) {c : Bool} (m : c ≡ leaves_open present new) where
-    pub new_open : c ≡ true → true ≡ open_line present old a new
+  module _ (k : b ≡ false) {c : Bool} (m : c ≡ leaves_open present x.text.now) where
+    pub new_open : c ≡ true → true ≡ open_line present x.old.now x.place x.text.now
     unfolding open_line
     new_open n = rw (old_is ∙ k, sym m ∙ n)
 
-    pub near_open : c ≡ false → {d : Bool} → d ≡ maybe (nearest (lines_from [] (above old a))) false (leaves_open present) → d ≡ open_line present old a new
+    pub near_open : c ≡ false → {d : Bool} → d ≡ maybe (nearest (lines_from [] (above x.old.now x.place))) false (leaves_open present)
+        → d ≡ open_line present x.old.now x.place x.text.now
     unfolding open_line
     near_open n d = rw (old_is ∙ k, sym m ∙ n) d

@@ -16,20 +16,21 @@ use Rattle.rules.proofs.Records.{listing_append}
 use Rattle.rules.proofs.Reencode.{Octets}
 use Rattle.records.specs.Writes.{stores}
 use Rattle.records.proofs.Writes.{stores_room, stored_over}
+use Rattle.std.specs.Prelude.{Result as Answer, Err}
 use Rattle.refusals.specs.declared.Refusal.{Refusal}
-use Rattle.patch.specs.declared.PatchAnswer.{PatchAnswer}
-use Rattle.patch.specs.declared.PatchAnswer.TheVariants.{Refused}
+use Rattle.refusals.specs.Refusals.{numbers}
+use Rattle.patch.specs.declared.Patched.{Patched}
 use Rattle.records.specs.Moves.{records_at, Decodes, First, moved_bytes}
 use Rattle.patch.specs.Plans.{Applied}
 use Rattle.patch.specs.Patched.{Patches}
 use Rattle.records.proofs.Listed.{moved_length, rest_length, first_decodes, first_within, first_kept, first_twice}
 
 -- A refusal leaves both buffers.
-pub refused : {e : Result Edit} {s l : List ℕ} {r : Refusal} (c : Cause) → e ≡ refuses c → r ≡ numbers_of c → Patches e s s l l (Refused r)
+pub refused : {e : Result Edit} {s l : List ℕ} {r : Refusal} (c : Cause) → e ≡ refuses c → numbers r ≡ numbers_of c → Patches e s s l l (Err r)
 unfolding patch_source patch_listing leaves
-refused c h k = record { answer = rw h (ap Refused k); source = rw h; listing = rw h }
+refused c h k = record { answer = rw h (ap Err k); source = rw h; listing = rw h }
 
-pub same_edit : {e e' : Result Edit} {s s' l l' : List ℕ} {r : PatchAnswer} → e ≡ e' → Patches e' s s' l l' r → Patches e s s' l l' r
+pub same_edit : {e e' : Result Edit} {s s' l l' : List ℕ} {r : Answer Patched Refusal} → e ≡ e' → Patches e' s s' l l' r → Patches e s s' l l' r
 same_edit h p = rw h p
 
 -- 6 and 4, and neither.
@@ -106,13 +107,12 @@ module _ {old : List ℕ} {a p below on : ℕ} (P : Parts old a p below on) (q :
       omega (arith, e, length-append (listing w) (moved_bytes q p (records_on (a + p) rs)), moved_length q p (records_on (a + p) rs), P.first, P.all)
 
   pub written : (s l ed : List ℕ) {s' l' l₂ part : List ℕ} {n : ℕ} → n ≡ length (listing w) → length ed ≤ length s → below + n + (length old - on) ≤ length l → s' ≡ stores s 0 ed
-      → part ≡ stores (take (length l - below) (drop below l)) 0 (listing w) → l₂ ≡ stores (take below l ++ (part ++ drop (length l - below) (drop below l))) 0 (take (below - 0) old)
+      → part ≡ stores (take (length l - below) (drop below l)) 0 (listing w) → l₂ ≡ stores (take below l ++ (part ++ drop (length l - below) (drop below l))) 0 (take below old)
       → l' ≡ stores l₂ (below + n) (moved_bytes q p (records_at old on))
       → Applied ed (exchanged a p q rs w) s s' l l' (below + n + (length old - on))
   written s l ed {l₂ = l₂} {part = part} {n = n} k h i e f g j =
       let m : List ℕ = moved_bytes q p (records_on (a + p) rs) in
       let z = moved_length q p (records_on (a + p) rs) in
-      let b : below - 0 ≡ below = omega arith in
       let o = assembled l (listing (records_below a rs)) (listing w) m P.first (ap (λ (x : ℕ). below + x) k) (omega (arith, P.all)) f
-      (g ∙ ap (stores (take below l ++ (part ++ drop (length l - below) (drop below l))) 0) (ap (λ (x : ℕ). take x old) b ∙ P.kept)) (j ∙ ap (λ (r : List Record). stores l₂ (below + n) (moved_bytes q p r)) P.rest) in
+      (g ∙ ap (stores (take below l ++ (part ++ drop (length l - below) (drop below l))) 0) P.kept) (j ∙ ap (λ (r : List Record). stores l₂ (below + n) (moved_bytes q p r)) P.rest) in
       record { source = e ∙ stored_over s ed h; listed = o ∙ ap (λ (b : List ℕ). overwrite b l) (sym (exchanged_bytes a p q rs w)); size = size_is k }

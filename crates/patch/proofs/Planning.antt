@@ -1,82 +1,112 @@
 -- The plan: what is found of the new line and of the old listing, 6 and 4 by its numbers, and what is written is the patch.
 -- Assumes nothing.
-use Rattle.std.specs.Prelude.{if◌then◌else◌}
-use Prim.Native.Nat.{ℕ, ◌+◌, ◌-◌, ◌≤◌}
-use mathlib.Core.Path.{◌≡◌, refl, ap, ◌∙◌}
+use Rattle.std.specs.Prelude.{if◌then◌else◌, Result as Answer, Ok, Err}
+use Prim.Native.Nat.{ℕ, ◌+◌, ◌-◌, ◌≤◌, ◌<◌, min}
+use mathlib.Core.Path.{◌≡◌, refl, ◌∙◌}
 use mathlib.Core.Bool.{Bool, true, false}
 use mathlib.Core.List.{List, ◌++◌}
 use native.Mathlib.Omega.{arith}
-use native.Mathlib.Nat.{sub-zero}
 use borrow.Author.Tests.{ltb-true, ltb-false}
 use lib.Dec.{ltb}
 use lib.ListN.{length, take, drop}
-use Rattle.refusals.specs.Refusals.{spanned}
+use Rattle.refusals.specs.declared.Refusal.{Refusal}
+use Rattle.refusals.specs.Refusals.{spanned, by_numbers}
 use Rattle.rules.specs.Records.{Record, listing}
 use Rattle.rules.specs.Reader.{nowhere}
 use Rattle.rules.specs.Statements.{present, read_from}
-use Rattle.rules.specs.Calls.{Result, gives, Short, leaves}
-use Rattle.reader.specs.Lent.{foreign_place}
-use Rattle.rules.specs.Patch.{Edit, line_at, behind, edited, placed_in, reread, patch_source, patch_listing}
+use Rattle.rules.specs.Calls.{Result, gives, leaves}
+use Rattle.reader.specs.declared.ascii.Ascii.{Ascii}
+use Rattle.records.specs.declared.Writer.{Writer}
+use Rattle.statements.specs.Statements.{Started, ReadsStatements}
+use Rattle.names.specs.Table.{operations}
+use Rattle.rules.proofs.Reencode.{Octets}
+use Rattle.lines.proofs.Laws.{begins_within}
+use Rattle.patch.specs.declared.Exchange.{Exchange}
+use Rattle.rules.specs.Patch.{Edit, behind, edited, placed_in, reread, patch_source, patch_listing}
 use Rattle.records.specs.Moves.{records_at, Decodes, First}
 use Rattle.state.specs.declared.Parser.{Parser}
 use Rattle.patch.specs.declared.Plan.{Plan}
-use Rattle.patch.specs.declared.Planned.{Planned}
-use Rattle.patch.specs.declared.Planned.TheVariants as planned
-use Rattle.patch.specs.declared.PatchAnswer.TheVariants.{Written}
-use Rattle.patch.specs.Patched.{Patches, accepted_of, Measured}
+use Rattle.patch.specs.declared.Rooms.{Rooms}
+use Rattle.patch.specs.Patched.{Patches, accepted_of}
 use Rattle.patch.specs.Plans.{new_length, fitted_of, Surveyed, new_records, PlansAs, Plans, Applied}
-use Rattle.patch.proofs.Placing.{Parts, size_is, no_source, no_listing, placed}
-use Rattle.patch.proofs.Rereading.{Cut, short_take, plain_take, line_accepted}
+use Rattle.patch.proofs.Placing.{Parts, parts, size_is, no_source, no_listing, placed}
+use Rattle.patch.proofs.Rereading.{new_within, Cut, cut_is, first_as, short_take, plain_take, measured, measure_small, line_accepted}
 
-pub same_plan : {e e' : Result Edit} {ed b : List ℕ} {room_s room_l : ℕ} {r : Planned} → e ≡ e' → Plans e' ed b room_s room_l r → Plans e ed b room_s room_l r
+pub same_plan : {e e' : Result Edit} {ed b : List ℕ} {rooms : Rooms} {r : Answer Plan Refusal} → e ≡ e' → Plans e' ed b rooms r → Plans e ed b rooms r
 same_plan h p = rw h p
 
--- The line as the code has it, and as the plan names it.
-pub found_cut : (ed b : List ℕ) (x : Plan) {p : Parser} → Surveyed (take x.cut ed) b x p → Surveyed (take (x.cut - 0) ed) b x p
-found_cut ed b x f = rw (sub-zero x.cut) f
-
-pub applied_cut : (ed b : List ℕ) (x : Plan) {s s' l l' : List ℕ} {n : ℕ} → Applied ed (new_records (take (x.cut - 0) ed) b x) s s' l l' n → Applied ed (new_records (take x.cut ed) b x) s s' l l' n
-applied_cut ed b x a = rw (sub-zero x.cut) at a
-
--- What is found where the line was read to its end.
-module _ (old bytes : List ℕ) (a : ℕ) (new : List ℕ) (h : a ≤ length old) {ed : List ℕ} (is : ed ≡ edited old a new) (few : length new ≤ 65536) {end : ℕ} (e : end ≡ a + length (line_at old a))
-    {cut : ℕ} (C : Cut old a new h is cut) (short : Short ed) (plain : foreign_place ed ≡ length ed) {p : Parser} {n : ℕ} (m : Measured (take (cut - 0) ed) a p n) (d : Decodes bytes 0) {below on : ℕ} (f : First bytes 0 a below) (g : First bytes below (a + (end - a)) on) where
-  abbrev plan : Plan
-  plan = record { place = a; old = end - a; new = length new; cut = cut; below = below; on = on; size = n }
-
-  pub line_found : Surveyed (take cut ed) bytes plan p
-  line_found =
-      let f : Surveyed (take (cut - 0) ed) bytes plan p = record { short = short_take (cut - 0) ed short; plain = plain_take (cut - 0) ed plain; place = C.place; new = few; measured = m; decodes = d; below = f; on = g } in
-      rw (sub-zero cut) at f
-
-  pub line_placed : (room_s room_l : ℕ) → reread old (records_at bytes 0) a new room_s room_l (read_from present a (new ++ take 1 (behind old a))) ≡ placed_in room_s room_l ed (new_records (take cut ed) bytes plan)
-  line_placed room_s room_l =
-      line_accepted old (records_at bytes 0) a new room_s room_l (take (cut - 0) ed) C.line {end = end} {ed = ed} m e is
-      ∙ ap (λ (k : ℕ). placed_in room_s room_l ed (new_records (take k ed) bytes plan)) (sub-zero cut)
-
 -- 6 and 4 by the numbers of a plan.
-module _ (e : Result Edit) (ed old : List ℕ) (x : Plan) (p : Parser) (cut : x.cut ≤ length ed) (f : Surveyed (take x.cut ed) old x p)
-    (P : Parts old x.place x.old x.below x.on) (room_s room_l : ℕ) (h : e ≡ placed_in room_s room_l ed (new_records (take x.cut ed) old x)) where
+module _ (e : Result Edit) (ed old : List ℕ) (x : Plan) (cut : x.cut ≤ length ed) (f : Surveyed (take x.cut ed) old x)
+    (P : Parts old x.place x.old x.below x.on) (rooms : Rooms) (h : e ≡ placed_in rooms.source rooms.listing ed (new_records (take x.cut ed) old x)) where
   size : new_length x (length old) ≡ length (listing (new_records (take x.cut ed) old x))
   size = size_is P x.new (accepted_of (read_from present x.place (drop x.place (take x.cut ed)))) f.measured.size
 
-  pub plans_fitted : {r : Planned} → r ≡ fitted_of x p (length ed) (length old) room_s room_l → Plans e ed old room_s room_l r
-  plans_fitted {r} k = record { so = rw k (go (ltb room_s (length ed)) refl (ltb room_l (new_length x (length old))) refl) }
+  pub plans_fitted : (r : Answer Plan Refusal) → by_numbers r ≡ fitted_of x (length ed) (length old) rooms → Plans e ed old rooms r
+  plans_fitted r k = record { so = go r (ltb rooms.source (length ed)) refl (ltb rooms.listing (new_length x (length old))) refl k }
     where
-      go : (b : Bool) → ltb room_s (length ed) ≡ b → (c : Bool) → ltb room_l (new_length x (length old)) ≡ c
-          → PlansAs e ed old room_s room_l (if b then (planned.Refused (spanned 6 0 0)) else if c then (planned.Refused (spanned 4 0 0)) else (planned.Exchange x p))
-      go true i c j = (nowhere 6, h ∙ no_source room_s room_l ed _ (ltb-true room_s (length ed) i), refl)
-      go false i true j = (nowhere 4, h ∙ no_listing room_s room_l ed _ (ltb-false room_s (length ed) i) (omega (arith, ltb-true room_l (new_length x (length old)) j, size)), refl)
-      go false i false j = record {
+      go : (r : Answer Plan Refusal) (b : Bool) → ltb rooms.source (length ed) ≡ b → (c : Bool) → ltb rooms.listing (new_length x (length old)) ≡ c
+          → by_numbers r ≡ (if b then (Err (spanned 6 0 0)) else if c then (Err (spanned 4 0 0)) else (Ok x)) → PlansAs e ed old rooms r
+      go (Err r) true i c j k = (nowhere 6, h ∙ no_source rooms.source rooms.listing ed _ (ltb-true rooms.source (length ed) i), cc)
+      go (Err r) false i true j k =
+          (nowhere 4, h ∙ no_listing rooms.source rooms.listing ed _ (ltb-false rooms.source (length ed) i) (omega (arith, ltb-true rooms.listing (new_length x (length old)) j, size)), cc)
+      go (Err r) false i false j k = cc
+      go (Ok y) true i c j k = cc
+      go (Ok y) false i true j k = cc
+      go (Ok y) false i false j k = let z : y ≡ x = cc in rw z (record {
         cut = cut;
         found = f;
-        given = h ∙ placed room_s room_l ed _ (ltb-false room_s (length ed) i) (omega (arith, ltb-false room_l (new_length x (length old)) j, size));
-        source_room = ltb-false room_s (length ed) i;
-        listing_room = ltb-false room_l (new_length x (length old)) j;
-      }
+        given = h ∙ placed rooms.source rooms.listing ed _ (ltb-false rooms.source (length ed) i) (omega (arith, ltb-false rooms.listing (new_length x (length old)) j, size));
+        source_room = ltb-false rooms.source (length ed) i;
+        listing_room = ltb-false rooms.listing (new_length x (length old)) j;
+      })
+
+-- What is found where the line was read to its end.
+module _ (x : Exchange) (v : Ascii) (is : v.source.text.now ≡ edited x.old.now x.place x.text.now) {bytes : List ℕ} (octets : Octets bytes) {cut : ℕ} (k : cut ≡ min (x.place + length x.text.now + 1) (length v.source.text.now))
+    {p q : Parser} {o w : Writer} (begins : o.at ≡ 0) (started : Started (take cut v.source.text.now) x.place p) (reads : ReadsStatements operations (take cut v.source.text.now) p o w (Ok q))
+    (d : Decodes bytes 0) {below on : ℕ} (f : First bytes 0 x.place below) (g : First bytes below x.end on) where
+  abbrev ed : List ℕ
+  ed = v.source.text.now
+
+  within : x.place ≤ length x.old.now
+  within = begins_within x.old.now x.place x.begins
+
+  abbrev plan : Plan
+  plan = record { place = x.place; old = x.end - x.place; new = length x.text.now; cut = cut; below = below; on = on; size = w.at; start = p }
+
+  cut_so : Cut x.old.now x.place x.text.now within is cut
+  cut_so = cut_is x.old.now x.place x.text.now within is k
+
+  rest : First bytes below (x.place + (x.end - x.place)) on
+  rest = let e : x.end ≡ x.place + (x.end - x.place) = omega (arith, x.ends) in first_as e g
+
+  old_parts : Parts bytes x.place (x.end - x.place) below on
+  old_parts = parts octets d f rest
+
+  line_found : Surveyed (take cut ed) bytes plan
+  line_found = record {
+    short = short_take cut ed v.source.short;
+    plain = plain_take cut ed v.ascii;
+    place = cut_so.place;
+    new = omega (arith, new_within x.old.now x.place x.text.now within is, v.source.short);
+    measured = measured (take cut ed) x.place (short_take cut ed v.source.short) (plain_take cut ed v.ascii) cut_so.place begins started reads;
+    decodes = d;
+    below = f;
+    on = rest;
+  }
+
+  -- its numbers are small
+  pub plan_small : length bytes ≤ 9223372036854775807 → (on ≤ length bytes) × (new_length plan (length bytes) < 18446744073709551616)
+  plan_small l =
+      let m = measure_small (take cut ed) x.place line_found.short line_found.plain line_found.place line_found.measured in
+      (omega (arith, old_parts.all), omega (arith, old_parts.all, old_parts.order, m))
+
+  pub line_planned : (rooms : Rooms) (r : Answer Plan Refusal) → by_numbers r ≡ fitted_of plan (length ed) (length bytes) rooms
+      → Plans (reread x.old.now (records_at bytes 0) x.place x.text.now rooms.source rooms.listing (read_from present x.place (x.text.now ++ take 1 (behind x.old.now x.place)))) ed bytes rooms r
+  line_planned rooms = plans_fitted _ ed bytes plan cut_so.within line_found old_parts rooms
+      (line_accepted x.old.now (records_at bytes 0) x.place x.text.now rooms (take cut ed) cut_so.line {end = x.end} {ed = ed} line_found.measured x.ends is)
 
 -- An applied plan is the patch.
-pub applied : {e : Result Edit} {ed : List ℕ} {w : List Record} {s s' l l' : List ℕ} {n : ℕ} → e ≡ gives (record { source = ed; records = w }) → Applied ed w s s' l l' n
-    → Patches e s s' l l' (Written (length ed) n)
+pub applied : {e : Result Edit} {ed : List ℕ} {w : List Record} {s s' l l' : List ℕ} {m n : ℕ} → e ≡ gives (record { source = ed; records = w }) → m ≡ length ed → Applied ed w s s' l l' n
+    → Patches e s s' l l' (Ok (record { source = m; listing = n }))
 unfolding patch_source patch_listing leaves
-applied {ed = ed} h a = record { answer = rw h (ap (Written (length ed)) a.size); source = rw h a.source; listing = rw h a.listed }
+applied h k a = record { answer = rw h (rw (k, a.size)); source = rw h a.source; listing = rw h a.listed }

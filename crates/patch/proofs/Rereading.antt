@@ -1,7 +1,8 @@
 -- The new line read in its place: what stands of the edited source is cut off behind its line feed.
 -- Assumes nothing.
-use Rattle.std.specs.Prelude.{if◌then◌else◌}
-use Prim.Native.Nat.{ℕ, zero, suc, ◌+◌, ◌-◌, ◌≤◌, ◌<◌}
+use Rattle.std.specs.Prelude.{if◌then◌else◌, Result as Answer, Ok, Err}
+use Rattle.std.proofs.lemmas.List.{take_min}
+use Prim.Native.Nat.{ℕ, zero, suc, ◌+◌, ◌-◌, ◌≤◌, min}
 use mathlib.Core.Path.{◌≡◌, refl, sym, ap, subst, ◌∙◌}
 use mathlib.Core.Bool.{Bool, true, false}
 use mathlib.Core.List.{List, [], ◌∷◌, ◌++◌}
@@ -10,7 +11,7 @@ use native.Mathlib.Omega.{arith}
 use native.Mathlib.Nat.{zero-add}
 use lib.Dec.{ltb}
 use lib.ListN.{length, take, drop, length-append, length-take, length-drop}
-use lib.Seq.{drop_at, take_all, take-append-add, length-take-le, drop-drop}
+use lib.Seq.{drop_at, take-append-add, length-take-le, drop-drop}
 use Rattle.lexer.specs.Text.{run}
 use Rattle.lexer.specs.Tokens.{in_comment}
 use Rattle.lexer.proofs.Runs.{run_le}
@@ -25,14 +26,16 @@ use Rattle.rules.proofs.Table.{proper}
 use Rattle.rules.proofs.Bound.{bounded_from}
 use Rattle.records.specs.Writes.{stores, limit}
 use Rattle.reader.specs.Lent.{foreign_place}
-use Rattle.reader.proofs.Lending.{never_foreign, place_none}
+use Rattle.reader.specs.declared.ascii.Ascii.{Ascii}
+use Rattle.reader.proofs.Lending.{never_foreign}
 use Rattle.reader.proofs.FullReads.{small, never_both}
 use Rattle.state.specs.declared.Parser.{Parser}
+use Rattle.records.specs.declared.Writer.{Writer}
 use Rattle.refusals.specs.declared.Refusal.{Refusal}
-use Rattle.state.specs.declared.Parsed.TheVariants as parsed
+use Rattle.refusals.specs.Refusals.{numbers}
 use Rattle.statements.specs.Statements.{Started, NotStarted, ReadsStatements}
 use Rattle.statements.proofs.Calls.{all_read, all_refused, all_not_started}
-use Rattle.patch.specs.declared.Planned.TheVariants.{Refused}
+use Rattle.patch.specs.declared.Rooms.{Rooms}
 use Rattle.records.specs.Moves.{First}
 use Rattle.patch.specs.Patched.{accepted_of, Measured}
 use Rattle.patch.specs.Plans.{Plans}
@@ -84,30 +87,25 @@ module _ (old : List ℕ) (a : ℕ) (new : List ℕ) (h : a ≤ length old) wher
 
   -- of the edited source, as the code has it
   module _ {ed : List ℕ} (e : ed ≡ edited old a new) where
-    pub new_within : length new ≤ length ed
+    pub new_within : a + length new ≤ length ed
     new_within = omega (arith, ap length e, edited_size)
 
     pub record Cut (cut : ℕ) : Type 0 where
       pub within : cut ≤ length ed
-      pub place : a ≤ length (take (cut - 0) ed)
-      pub line : drop a (take (cut - 0) ed) ≡ new ++ take 1 (behind old a)
+      pub place : a ≤ length (take cut ed)
+      pub line : drop a (take cut ed) ≡ new ++ take 1 (behind old a)
 
-    is_cut : {cut : ℕ} → cut ≤ length ed → a ≤ cut → take cut (edited old a new) ≡ above old a ++ (new ++ take 1 (behind old a)) → Cut cut
-    is_cut {cut} i j t =
-        let z : cut - 0 ≡ cut = omega arith in
-        let k : take (cut - 0) ed ≡ above old a ++ (new ++ take 1 (behind old a)) = ap (λ (n : ℕ). take n ed) z ∙ ap (take cut) e ∙ t in
-        record { within = i; place = omega (arith, ap length k, length-append (above old a) (new ++ take 1 (behind old a)), above_length); line = ap (drop a) k ∙ drop_at (above old a) (new ++ take 1 (behind old a)) a above_length }
-
-    -- the end of the source, or a line feed
-    pub cut_end : {cut : ℕ} → cut ≡ a + length new → length ed ≤ a + length new → Cut cut
-    cut_end {cut} k i =
-        let n : length (edited old a new) ≤ cut = omega (arith, ap length e) in
-        is_cut (omega (arith, ap length e, edited_size)) (omega arith) (take_all cut (edited old a new) n ∙ sym (take_all (a + (length new + 1)) (edited old a new) (omega arith)) ∙ cut_at 1)
-
-    pub cut_feed : {cut : ℕ} → cut ≡ a + length new + 1 → a + length new < length ed → Cut cut
-    cut_feed {cut} k i =
-        let n : cut ≡ a + (length new + 1) = omega arith in
-        is_cut (omega arith) (omega arith) (ap (λ (m : ℕ). take m (edited old a new)) n ∙ cut_at 1)
+    -- it ends behind a line feed, or at the end of the source
+    pub cut_is : {cut : ℕ} → cut ≡ min (a + length new + 1) (length ed) → Cut cut
+    cut_is {cut} k =
+        let n : a + length new + 1 ≡ a + (length new + 1) = omega arith in
+        let t : take cut ed ≡ above old a ++ (new ++ take 1 (behind old a)) =
+        ap (λ (m : ℕ). take m ed) k ∙ take_min (a + length new + 1) ed ∙ (λ i. take (n i) (e i)) ∙ cut_at 1 in
+        record {
+          within = omega (arith, k);
+          place = omega (arith, ap length t, length-append (above old a) (new ++ take 1 (behind old a)), above_length);
+          line = ap (drop a) t ∙ drop_at (above old a) (new ++ take 1 (behind old a)) a above_length;
+        }
 
 pub first_as : {l : List ℕ} {from a b r : ℕ} → a ≡ b → First l from a r → First l from b r
 first_as {l} {from} {r = r} e f = subst (λ (k : ℕ). First l from k r) e f
@@ -127,21 +125,26 @@ foreign_take p (suc n) (c ∷ cs) e = go (ltb 127 c) e (foreign_take (suc p) n c
     go false e k = k e
 
 pub plain_take : (n : ℕ) (s : List ℕ) → foreign_place s ≡ length s → foreign_place (take n s) ≡ length (take n s)
-plain_take n s e = sym (place_none (take n s) (foreign_take 0 n s (never_foreign s (sym e))) refl)
+unfolding foreign_place
+plain_take n s e = rw (foreign_take 0 n s (never_foreign s (sym e)))
 
 -- The reading of the bytes from a place on.
 module _ (s : List ℕ) (place : ℕ) where
   abbrev reading : Outcome
   reading = read_from present place (drop place s)
 
-  pub not_begun : {r : Refusal} → NotStarted s place r → (c : Cause) × (reading ≡ refusal c) × (r ≡ numbers_of c)
-  not_begun b = let f = all_not_started operations s place b in (f.cause, f.reads, f.numbers)
+  -- it is refused
+  abbrev pub Refuses : Refusal → Type 0
+  Refuses r = (c : Cause) × (reading ≡ refusal c) × (numbers r ≡ numbers_of c)
 
-  module _ {p : Parser} {l l' : List ℕ} where
-    pub denied : {r : Refusal} → Started s place p → ReadsStatements operations s p 0 l l' (parsed.Refused r) → (c : Cause) × (reading ≡ refusal c) × (r ≡ numbers_of c)
-    denied b h = let f = all_refused operations s place b h in (f.cause, f.reads, f.numbers)
+  pub not_begun : {r : Refusal} → NotStarted s place r → Refuses r
+  not_begun b = let f = all_not_started operations s place b in (f.cause, f.reads, f.by_numbers)
 
-    pub never_denied : {n : ℕ} {r : Refusal} → Measured s place p n → ReadsStatements operations s p 0 l l' (parsed.Refused r) → ⊥
+  module _ {p : Parser} {o w : Writer} where
+    pub denied : {r : Refusal} → Started s place p → ReadsStatements operations s p o w (Err r) → Refuses r
+    denied b h = let f = all_refused operations s place b h in (f.cause, f.reads, f.by_numbers)
+
+    never_denied : {n : ℕ} {r : Refusal} → Measured s place p n → ReadsStatements operations s p o w (Err r) → ⊥
     never_denied m h = let (c, e, _) = denied m.started h in never_both (sym m.reads ∙ e)
 
   module _ (short : length s ≤ 65536) (plain : foreign_place s ≡ length s) (within : place ≤ length s) where
@@ -152,40 +155,48 @@ module _ (s : List ℕ) (place : ℕ) where
     pub measure_small : {p : Parser} {m : ℕ} → Measured s place p m → m ≤ limit
     measure_small b = omega (arith, b.size, little (accepted_of reading) b.reads)
 
-    module _ {p q : Parser} {l l' : List ℕ} {n : ℕ} where
-      pub measured : Started s place p → ReadsStatements operations s p 0 l l' (parsed.Done q n) → Measured s place p n
+    -- by a writer that begins at 0
+    module _ {p : Parser} {o w : Writer} (begins : o.at ≡ 0) where
+      pub measured : {q : Parser} → Started s place p → ReadsStatements operations s p o w (Ok q) → Measured s place p w.at
       measured b h =
           let f = all_read operations s place b h in
           let k : accepted_of reading ≡ f.v = ap accepted_of f.reads in
           record {
             started = b;
             reads = f.reads ∙ ap accepted (sym k);
-            size = f.wrote.place (omega (arith, little f.v f.reads)) ∙ zero-add (length (listing f.v)) ∙ ap (λ (v : List Record). length (listing v)) (sym k);
+            size =
+                f.puts.wrote.place (omega (arith, begins, little f.v f.reads)) ∙ ap (λ (i : ℕ). i + length (listing f.v)) begins ∙ zero-add (length (listing f.v))
+                ∙ ap (λ (v : List Record). length (listing v)) (sym k);
           }
 
-      -- read again, they are written
-      pub read_again : {m : ℕ} → Measured s place p m → m ≤ length l → ReadsStatements operations s p 0 l l' (parsed.Done q n) → l' ≡ stores l 0 (listing (accepted_of reading))
-      read_again b i h =
-          let f = all_read operations s place b.started h in
-          let k : accepted_of reading ≡ f.v = ap accepted_of f.reads in
-          let c : length (listing (accepted_of reading)) ≡ length (listing f.v) = ap (λ (v : List Record). length (listing v)) k in
-          f.wrote.wrote (omega (arith, little f.v f.reads)) (omega (arith, b.size)) ∙ ap (λ (v : List Record). stores l 0 (listing v)) (sym k)
+-- What was measured, read again by a writer that begins at 0, is written to its buffer, so to what its owner lent it.
+pub read_again : (line : Ascii) {place : ℕ} → place ≤ length line.source.text.now → {p : Parser} {o w : Writer} → o.at ≡ 0 → {m : ℕ} → Measured line.source.text.now place p m → m ≤ length o.out.now
+    → (r : Answer Parser Refusal) → ReadsStatements operations line.source.text.now p o w r → {l : List ℕ} → (o.out.ghost_name ≡ w.out.ghost_name → l ≡ w.out.now)
+    → l ≡ stores o.out.now 0 (listing (accepted_of (read_from present place (drop place line.source.text.now))))
+read_again line within begins b i (Err r) h j = absurd (never_denied _ _ b h)
+read_again line {place} within {o = o} begins b i (Ok q) h j =
+    let s : List ℕ = line.source.text.now in
+    let f = all_read operations s place b.started h in
+    let k : accepted_of (reading s place) ≡ f.v = ap accepted_of f.reads in
+    let c : length (listing (accepted_of (reading s place))) ≡ length (listing f.v) = ap (λ (v : List Record). length (listing v)) k in
+    j (sym f.puts.buffer) ∙ f.puts.wrote.wrote (omega (arith, begins, little s place line.source.short line.ascii within f.v f.reads)) (omega (arith, begins, b.size))
+    ∙ (λ n. stores o.out.now (begins n) (listing (sym k n)))
 
 -- What the reading makes of the patch.
-module _ (old : List ℕ) (rs : List Record) (a : ℕ) (new : List ℕ) (room_s room_l : ℕ) where
+module _ (old : List ℕ) (rs : List Record) (a : ℕ) (new : List ℕ) (rooms : Rooms) where
   abbrev new_line : List ℕ
   new_line = new ++ take 1 (behind old a)
 
   abbrev read : Result Edit
-  read = reread old rs a new room_s room_l (read_from present a new_line)
+  read = reread old rs a new rooms.source rooms.listing (read_from present a new_line)
 
   module _ (line : List ℕ) (e : drop a line ≡ new_line) where
-    pub line_denied : {ed bytes : List ℕ} {r : Refusal} → (c : Cause) × (read_from present a (drop a line) ≡ refusal c) × (r ≡ numbers_of c) → Plans read ed bytes room_s room_l (Refused r)
+    pub line_denied : {ed bytes : List ℕ} {r : Refusal} → Refuses line a r → Plans read ed bytes rooms (Err r)
     unfolding reread
     line_denied (c, f, k) = record { so = (c, rw (ap (read_from present a) (sym e) ∙ f), k) }
 
     pub line_accepted : {p : Parser} {n end : ℕ} {ed : List ℕ} → Measured line a p n → end ≡ a + length (line_at old a) → ed ≡ edited old a new
-        → read ≡ placed_in room_s room_l ed (exchanged a (end - a) (length new) rs (accepted_of (read_from present a (drop a line))))
+        → read ≡ placed_in rooms.source rooms.listing ed (exchanged a (end - a) (length new) rs (accepted_of (read_from present a (drop a line))))
     unfolding reread
     line_accepted {end = end} {ed = ed} m k h =
         let w : List Record = accepted_of (read_from present a (drop a line)) in

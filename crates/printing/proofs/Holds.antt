@@ -7,6 +7,7 @@ use native.Mathlib.Nat.{zero-add}
 use lib.ListN.{length, length-take, length-drop, take, drop, take-append-drop, drop_of_length-le}
 use lib.Seq.{sets, length-sets, sets-eq}
 use Rattle.rules.specs.Calls.{overwrite}
+use Rattle.text.specs.declared.Text.{Text}
 use Rattle.text.specs.Text.{stores, Put}
 use Rattle.printing.specs.Holds.{Holds}
 use Rattle.text.proofs.Puts.{sets_append, sets_out}
@@ -23,9 +24,11 @@ sets_cut bs l =
     (λ h _. ap (sets (sets l 0 a) (0 + length a)) (drop_of_length-le bs h)) in
     ap (sets l 0) (sym (take-append-drop (length l) bs)) ∙ sets_append l 0 a b ∙ rest ∙ sets-eq a l 0 (omega arith) ∙ ap (λ (k : ℕ). a ++ drop k l) (zero-add (length a))
 
-pub holds : {r : ℕ} {bs l l' : List ℕ} → Put 0 bs l l' r → Holds bs l l' r
+-- in the buffer l' that it has then
+pub holds : {bs l' : List ℕ} {t t' : Text} → Put bs t t' → t.at ≡ 0 → l' ≡ t'.out.now → Holds bs t.out.now l' t'.at
 unfolding stores overwrite
-holds {r} {bs} {l} x =
+holds {bs} {l'} {t} {t'} x z e =
+    let l : List ℕ = t.out.now in
     let n : length (take (length l) bs) ≡ min (length l) (length bs) = length-take (length l) bs in
     let p = x.place in
-    record { text = x.text ∙ sets_cut bs l; size = omega arith }
+    record { text = e ∙ x.text ∙ ap (λ (i : ℕ). sets l i bs) z ∙ sets_cut bs l; size = omega arith }

@@ -10,6 +10,7 @@ use lib.Seq.{drop-drop}
 use Rattle.lexer.specs.Text.{maybe}
 use Rattle.rules.specs.Records.{Record}
 use Rattle.rules.specs.Decode.{Sized, record_of, also, records_from, decode}
+use Rattle.text.specs.declared.Text.{Text}
 use Rattle.text.specs.Text.{Put}
 use Rattle.printing.specs.Lines.{line, line_of, lines_of, text_of, records_in}
 use Rattle.printing.specs.Shapes.{Printed}
@@ -31,10 +32,14 @@ records_one (c ∷ cs) r (suc n) h k e =
     let p : pred (suc n) ≡ n = omega arith in
     rw (e, p) (ap (λ (rs : List Record). r ∷ rs) (records_skip n cs))
 
-pub records_none : (s : List ℕ) → record_of (take 2 s) (drop 2 s) ≡ none → records_in 0 s ≡ []
+records_none : (s : List ℕ) → record_of (take 2 s) (drop 2 s) ≡ none → records_in 0 s ≡ []
 unfolding records_in
 records_none [] e = refl
 records_none (c ∷ cs) e = rw e
+
+-- where none is found at a place, no record is left
+pub none_left : (b : List ℕ) (at : ℕ) → let s : List ℕ = take (length b - at) (drop at b) in record_of (take 2 s) (drop 2 s) ≡ none → records_in 0 (drop at b) ≡ []
+none_left b at e = records_none (drop at b) (rw (tail at b) at e)
 
 lines_append : (a b : List Record) → lines_of (a ++ b) ≡ lines_of a ++ lines_of b
 unfolding lines_of
@@ -46,22 +51,22 @@ unfolding lines_of
 lines_more a r = ap (λ (s : List ℕ). lines_of a ++ s) (sym (append-nil (line_of r))) ∙ sym (lines_append a (r ∷ []))
 
 -- The records before a place are printed.
-pub record Begun (b : List ℕ) (at count : ℕ) (l l' : List ℕ) (to : ℕ) : Type 0 where
+pub record Begun (b : List ℕ) (at count : ℕ) (t t' : Text) : Type 0 where
   pub done : List Record
   pub counted : count ≡ length done
   pub few : count ≤ at
   pub within : at ≤ length b
   pub short : length (lines_of done) ≤ 6 * at
-  pub wrote : Put 0 (lines_of done) l l' to
+  pub wrote : Put (lines_of done) t t'
   pub rest : records_in 0 b ≡ done ++ records_in 0 (drop at b)
 
-pub begun : (b l : List ℕ) → Begun b 0 0 l l 0
+pub begun : (b : List ℕ) (t : Text) → Begun b 0 0 t t
 unfolding lines_of
-begun b l = record { done = []; counted = refl; few = omega arith; within = omega arith; short = omega arith; wrote = nothing 0 l; rest = refl }
+begun b t = record { done = []; counted = refl; few = omega arith; within = omega arith; short = omega arith; wrote = nothing t; rest = refl }
 
-pub begun_more : {b : List ℕ} {at count size to w : ℕ} {l l₁ l₂ : List ℕ} → Begun b at count l l₁ to → Printed (take (length b - at) (drop at b)) size to l₁ l₂ w → Begun b (at + size) (count + 1) l l₂ w
-begun_more {b} {at} {count} {size} {to} {w} {l} {l₁} {l₂} g p₀ =
-    let p : Printed (drop at b) size to l₁ l₂ w = rw (tail at b) at p₀ in
+pub begun_more : {b : List ℕ} {at count size : ℕ} {t t₁ t₂ : Text} → Begun b at count t t₁ → Printed (take (length b - at) (drop at b)) size t₁ t₂ → Begun b (at + size) (count + 1) t t₂
+begun_more {b} {at} {count} {size} {t} {t₁} {t₂} g p₀ =
+    let p : Printed (drop at b) size t₁ t₂ = rw (tail at b) at p₀ in
     let k : length (drop at b) ≡ length b - at = length-drop at b in
     let long = p.long in
     let fits = p.fits in
@@ -76,11 +81,11 @@ begun_more {b} {at} {count} {size} {to} {w} {l} {l₁} {l₂} g p₀ =
       rest = g.rest ∙ ap (λ (rs : List Record). g.done ++ rs) (records_one (drop at b) r size long fits p.there ∙ ap (λ (s : List ℕ). r ∷ records_in 0 s) (drop-drop size at b)) ∙ sym (append_assoc g.done (r ∷ []) (records_in 0 (drop (at + size) b)));
     }
 
-module _ {b : List ℕ} {at count to : ℕ} {l l₁ : List ℕ} (g : Begun b at count l l₁ to) (e : records_in 0 (drop at b) ≡ []) where
+module _ {b : List ℕ} {at count : ℕ} {t t₁ : Text} (g : Begun b at count t t₁) (e : records_in 0 (drop at b) ≡ []) where
   all_done : records_in 0 b ≡ g.done
   all_done = g.rest ∙ ap (λ (rs : List Record). g.done ++ rs) e ∙ append-nil g.done
 
-  pub ended : {r : ℕ} {l₂ : List ℕ} → Put to (line "END" (count ∷ [])) l₁ l₂ r → Put 0 (text_of (records_in 0 b)) l l₂ r
+  pub ended : {t₂ : Text} → Put (line "END" (count ∷ [])) t₁ t₂ → Put (text_of (records_in 0 b)) t t₂
   unfolding text_of
   ended x = rw (all_done, ← g.counted) (follows (lines_of g.done) (line "END" (count ∷ [])) g.wrote x)
 

@@ -9,6 +9,7 @@ use lib.Dec.{ltb}
 use lib.ListN.{length, length-append, length-take, take, drop, get_or}
 use borrow.Author.Tests.{lt-ltb}
 use Rattle.lexer.specs.Text.{bytes}
+use Rattle.refusals.specs.Refusals.{Numbers}
 use Rattle.rules.specs.Decode.{nth, nths_from}
 use Rattle.text.specs.Text.{decimal_in, decimal, signed, numbers}
 use Rattle.printing.specs.Lines.{line, refusal_text}
@@ -66,9 +67,11 @@ pub end_most : (n : ℕ) → length (line "END" (n ∷ [])) ≤ 25
 unfolding line bytes
 end_most n = omega (arith, numbers_most (n ∷ []), length-append (bytes "END" ++ numbers (n ∷ [])) (bytes "\n"))
 
-pub refusal_most : (n f t a b : ℕ) → length (refusal_text n f t a b) ≤ 109
+pub refusal_most : (r : Numbers) → length (refusal_text r) ≤ 109
 unfolding refusal_text line bytes
-refusal_most n f t a b = omega (arith, numbers_most (n ∷ f ∷ t ∷ a ∷ b ∷ []), length-append (bytes "REF" ++ numbers (n ∷ f ∷ t ∷ a ∷ b ∷ [])) (bytes "\n"))
+refusal_most r =
+    let ns : List ℕ = r.number ∷ r.from ∷ r.to ∷ r.first ∷ r.second ∷ [] in
+    omega (arith, numbers_most ns, length-append (bytes "REF" ++ numbers ns) (bytes "\n"))
 
 -- the bytes of a slice, and of its parts
 abbrev pub Bytes : List ℕ → Type 0

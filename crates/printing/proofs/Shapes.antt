@@ -2,9 +2,10 @@
 use Rattle.std.specs.Prelude.{if◌then◌else◌}
 use Prim.Native.Nat.{ℕ, ◌+◌, ◌-◌, ◌*◌, ◌≤◌, ◌<◌}
 use mathlib.Core.Path.{◌≡◌, refl, sym, ap, ◌∙◌}
-use mathlib.Core.Bool.{Bool, true, false, not, ◌||◌, false≢true, true≢false}
+use mathlib.Core.Bool.{Bool, true, false, ◌||◌, false≢true}
 use mathlib.Core.List.{List, [], ◌∷◌, ◌++◌, append_assoc, append-nil}
 use mathlib.Core.Option.{Option, none, some}
+use Rattle.std.specs.Prelude.{Some, None}
 use native.Mathlib.Omega.{arith}
 use lib.ListN.{length, take, drop, get_or, length-drop, length-take, length-append}
 use lib.Seq.{length-take-le, take_all}
@@ -13,29 +14,17 @@ use Rattle.lexer.specs.Text.{bytes, same}
 use Rattle.rules.specs.Records.{Form, form_of, plain, VC, LD, Cell, a_place, a_number, a_signed, cells, cells_of}
 use Rattle.rules.specs.Decode.{nth, nths_from, having, data_at, formed, record_of}
 use Rattle.rules.proofs.Forms.{same_true, found, two_letters as letters_two}
+use Rattle.records.specs.declared.marks.Mark.{Mark}
+use Rattle.records.specs.declared.marks.Mark.TheVariants as mark
 use Rattle.records.specs.Marks.{letters_of, is_known, count_of}
 use Rattle.records.proofs.Fields.{letters_of_lem}
 use Rattle.records.proofs.Marking.{cells_are, count_of_lem, known_none, known_some, or_other, data_mark}
 use Rattle.printing.specs.declared.Shape.TheVariants as shape
+use Rattle.text.specs.declared.Text.{Text}
 use Rattle.text.specs.Text.{decimal, signed, numbers, Put}
 use Rattle.printing.specs.Lines.{fields_text, line_of}
 use Rattle.printing.specs.Shapes.{nths, Lined, Shaped, Printed}
 use Rattle.text.proofs.Puts.{numbers_append}
-
--- a test that fails, or does not
-pub not-true : {b : Bool} → not b ≡ true → b ≡ false
-not-true {b} h = by b h
-  where
-    by : (b : Bool) → not b ≡ true → b ≡ false
-    by true h = absurd (false≢true h)
-    by false h = refl
-
-pub not_false : {b : Bool} → not b ≡ false → b ≡ true
-not_false {b} h = by b h
-  where
-    by : (b : Bool) → not b ≡ false → b ≡ true
-    by true h = refl
-    by false h = absurd (true≢false h)
 
 -- A RECORD THAT IS NOT THERE: it has no description, or its bytes end too soon.
 pub no_record : (m s : List ℕ) → form_of m ≡ none → record_of m s ≡ none
@@ -92,7 +81,7 @@ only_value m w e n =
     let (h, j) = found (λ v. same (bytes v.mark) (bytes "VC") || no_signed (cells v.holds)) m w refl e in
     or_other (same (bytes w.mark) (bytes "VC")) _ h (λ i. n (j ∙ same_true (bytes w.mark) (bytes "VC") i))
 
-unlike : {x k : ℕ} {m : List ℕ} → letters_of k ≡ m → (x ≡ k → ⊥) → letters_of x ≡ m → ⊥
+unlike : {x k : Mark} {m : List ℕ} → letters_of k ≡ m → (x ≡ k → ⊥) → letters_of x ≡ m → ⊥
 unlike {x} {k} h n e = n (letters_of_lem x k (e ∙ sym h))
 
 -- VC
@@ -104,7 +93,7 @@ value_text f t v =
     ap (λ (y : List ℕ). 32 ∷ y) (append_assoc (decimal f) (32 ∷ (decimal t ++ [])) x ∙ ap (λ (y : List ℕ). decimal f ++ (32 ∷ y)) (append_assoc (decimal t) [] x)) in
     ap (λ (y : List ℕ). 32 ∷ (decimal f ++ (32 ∷ (decimal t ++ (32 ∷ y))))) (append-nil (signed v)) ∙ sym e ∙ sym (append_assoc (numbers (f ∷ t ∷ [])) (32 ∷ []) (signed v))
 
-pub value_there : (s : List ℕ) → 12 ≤ length s → Shaped (letters_of 0x5643) s shape.Value
+pub value_there : (s : List ℕ) → 12 ≤ length s → Shaped (letters_of mark.VC) s (Some shape.Value)
 unfolding record_of formed having line_of nths_from bytes
 value_there s h = record {
   what = VC (nth 0 s) (nth 1 s) (nth 2 s);
@@ -113,16 +102,17 @@ value_there s h = record {
   said = ap (λ (t : List ℕ). 86 ∷ 67 ∷ (t ++ bytes "\n")) (value_text (nth 0 s) (nth 1 s) (nth 2 s));
 }
 
-pub value_three : {m n : ℕ} → m ≡ 0x5643 → n ≡ count_of (letters_of m) → n ≡ 3
+-- VC and LD have three fields
+pub value_fields : {m : Mark} {n l : ℕ} → m ≡ mark.VC → n ≡ count_of (letters_of m) → 4 * n ≤ l → 12 ≤ l
 unfolding count_of
-value_three e f = f ∙ ap (λ (x : ℕ). count_of (letters_of x)) e
+value_fields e f h = let n = f ∙ ap (λ (x : Mark). count_of (letters_of x)) e in omega arith
 
-pub data_three : {m n : ℕ} → m ≡ 0x4c44 → n ≡ count_of (letters_of m) → n ≡ 3
+pub data_fields : {m : Mark} {n l : ℕ} → m ≡ mark.LD → n ≡ count_of (letters_of m) → 4 * n ≤ l → 12 ≤ l
 unfolding count_of
-data_three e f = f ∙ ap (λ (x : ℕ). count_of (letters_of x)) e
+data_fields e f h = let n = f ∙ ap (λ (x : Mark). count_of (letters_of x)) e in omega arith
 
 -- LD, whose bytes are as many as it says
-pub data_there : (s : List ℕ) (n : ℕ) → n ≡ nth 2 s → 12 + n ≤ length s → Shaped (letters_of 0x4c44) s (shape.Data n)
+pub data_there : (s : List ℕ) (n : ℕ) → n ≡ nth 2 s → 12 + n ≤ length s → Shaped (letters_of mark.LD) s (Some (shape.Data n))
 unfolding record_of formed data_at line_of nths_from no_signed bytes
 data_there s n e h =
     let d : List ℕ = take n (drop 12 s) in
@@ -140,7 +130,7 @@ data_there s n e h =
         ap (λ (x : List ℕ). x ++ numbers (n ∷ d)) (plain_text (a_place ∷ a_place ∷ []) (f ∷ t ∷ []) refl) ∙ sym (numbers_append (f ∷ t ∷ []) (n ∷ d)) ∙ numbers_append (f ∷ t ∷ n ∷ []) d in
         ap (λ (x : List ℕ). 76 ∷ 68 ∷ (x ++ bytes "\n")) a
 
-pub no_data : (s : List ℕ) → length s < 12 + nth 2 s → Shaped (letters_of 0x4c44) s shape.Nothing
+pub no_data : (s : List ℕ) → length s < 12 + nth 2 s → Shaped (letters_of mark.LD) s None
 unfolding record_of formed data_at
 no_data s h = rw (lt-leb (12 + nth 2 s) (length s) h)
 
@@ -153,7 +143,7 @@ line_is : (m ns : List ℕ) → no_signed (cells_of m) ≡ true → line_of (pla
 unfolding line_of
 line_is m ns h = ap (λ (t : List ℕ). m ++ t ++ bytes "\n") (plain_text (cells_of m) ns h)
 
-pub fields_there : (x n : ℕ) (s : List ℕ) → n ≡ count_of (letters_of x) → is_known (letters_of x) ≡ true → 4 * n ≤ length s → (x ≡ 0x5643 → ⊥) → (x ≡ 0x4c44 → ⊥) → Shaped (letters_of x) s (shape.Fields n)
+pub fields_there : (x : Mark) (n : ℕ) (s : List ℕ) → n ≡ count_of (letters_of x) → is_known (letters_of x) ≡ true → 4 * n ≤ length s → (x ≡ mark.VC → ⊥) → (x ≡ mark.LD → ⊥) → Shaped (letters_of x) s (Some (shape.Fields n))
 unfolding bytes
 fields_there x n s e z h vc ld = go (form_of (letters_of x)) refl
   where
@@ -173,8 +163,8 @@ fields_there x n s e z h vc ld = go (form_of (letters_of x)) refl
             }
 
 -- the record at the head of s, with its mark
-pub printed : (s : List ℕ) (size : ℕ) (text : List ℕ) {at w : ℕ} {l l' : List ℕ} → 2 ≤ length s → length text ≤ 6 * size + 9 → Lined (take 2 s) (drop 2 s) size text
-    → Put at (take 2 s ++ text ++ bytes "\n") l l' w → Printed s (2 + size) at l l' w
+pub printed : (s : List ℕ) (size : ℕ) (text : List ℕ) {t t' : Text} → 2 ≤ length s → length text ≤ 6 * size + 9 → Lined (take 2 s) (drop 2 s) size text
+    → Put (take 2 s ++ text ++ bytes "\n") t t' → Printed s (2 + size) t t'
 unfolding bytes
 printed s size text h k d x =
     record {

@@ -8,7 +8,7 @@ use Rattle.rules.specs.Statements.{present}
 use Rattle.rules.specs.Records.{Record, plain, laden, VC, LD, Cell, a_place, a_number, a_signed, cells_of}
 use Rattle.rules.specs.Calls.{Result, gives, refuses, full_read, open_calls}
 use Rattle.rules.specs.Decode.{record_of}
-use Rattle.refusals.specs.declared.Refusal.{Refusal}
+use Rattle.refusals.specs.Refusals.{Numbers}
 use Rattle.rules.specs.Reader.{numbers_of}
 use Rattle.text.specs.Text.{decimal, signed, numbers, open_text}
 
@@ -38,13 +38,13 @@ lines_of (r ∷ rs) = line_of r ++ lines_of rs
 unfoldable pub text_of : List Record → List ℕ
 text_of rs = lines_of rs ++ line "END" (length rs ∷ [])
 
-unfoldable pub refusal_text : ℕ → ℕ → ℕ → ℕ → ℕ → List ℕ
-refusal_text number from to first second = line "REF" (number ∷ from ∷ to ∷ first ∷ second ∷ [])
+unfoldable pub refusal_text : Numbers → List ℕ
+refusal_text r = line "REF" (r.number ∷ r.from ∷ r.to ∷ r.first ∷ r.second ∷ [])
 
 -- What is printed of a full read.
 unfoldable pub answer_text : Result (List Record) → List ℕ
 answer_text (gives rs) = text_of rs
-answer_text (refuses c) = let r : Refusal = numbers_of c in refusal_text r.number r.from r.to r.first r.second
+answer_text (refuses c) = refusal_text (numbers_of c)
 
 -- With as many bytes lent for the listing as the buffer l has.
 abbrev pub answered : List ℕ → List ℕ → List ℕ

@@ -1,13 +1,13 @@
 -- How the code prints the record at the head of bytes.
-use Rattle.std.specs.Prelude.{◌≡◌, List, ◌++◌, ℕ, ◌+◌, ◌*◌, ◌≤◌, length, take, drop}
+use Rattle.std.specs.Prelude.{◌≡◌, List, [], ◌++◌, ℕ, ◌+◌, ◌*◌, ◌≤◌, length, take, drop}
+use Rattle.std.specs.Prelude.{Option, None, Some}
 use Rattle.std.proofs.Math.Option.{none, some}
 use Rattle.lexer.specs.Text.{bytes}
 use Rattle.rules.specs.Records.{Record}
 use Rattle.rules.specs.Decode.{nth, nths_from, record_of}
 use Rattle.printing.specs.declared.Shape.{Shape}
 use Rattle.printing.specs.declared.Shape.TheVariants as shape
-use Rattle.printing.specs.declared.Line.{Line}
-use Rattle.printing.specs.declared.Line.TheVariants as printed
+use Rattle.text.specs.declared.Text.{Text}
 use Rattle.text.specs.Text.{signed, numbers, Put}
 use Rattle.printing.specs.Lines.{line_of}
 
@@ -23,21 +23,21 @@ pub record Lined (m s : List ℕ) (size : ℕ) (text : List ℕ) : Type 0 where
   pub said : line_of what ≡ m ++ text ++ bytes "\n"
 
 -- How a record is printed, as the code has it: so many fields; VC; LD with so many bytes; or no record is there.
-abbrev pub Shaped : List ℕ → List ℕ → Shape → Type 0
-Shaped m s (shape.Fields n) = Lined m s (4 * n) (numbers (nths n s))
-Shaped m s shape.Value = Lined m s 12 (numbers (nths 2 s) ++ bytes " " ++ signed (nth 2 s))
-Shaped m s (shape.Data n) = Lined m s (12 + n) (numbers (nths 3 s) ++ numbers (take n (drop 12 s)))
-Shaped m s shape.Nothing = record_of m s ≡ none
+abbrev pub Shaped : List ℕ → List ℕ → Option Shape → Type 0
+Shaped m s (Some (shape.Fields n)) = Lined m s (4 * n) (numbers (nths n s))
+Shaped m s (Some shape.Value) = Lined m s 12 (numbers (nths 2 s) ++ bytes " " ++ signed (nth 2 s))
+Shaped m s (Some (shape.Data n)) = Lined m s (12 + n) (numbers (nths 3 s) ++ numbers (take n (drop 12 s)))
+Shaped m s None = record_of m s ≡ none
 
--- The record at the head of s is printed: its length, and the place behind its line; or none is there.
-pub record Printed (s : List ℕ) (size at : ℕ) (l l' : List ℕ) (w : ℕ) : Type 0 where
+-- The record at the head of s is printed: its length; or none is there, and nothing is printed.
+pub record Printed (s : List ℕ) (size : ℕ) (old new : Text) : Type 0 where
   pub what : Record
   pub there : record_of (take 2 s) (drop 2 s) ≡ some (record { what = what; size = size })
   pub long : 2 ≤ size
   pub fits : size ≤ length s
   pub short : length (line_of what) ≤ 6 * size
-  pub wrote : Put at (line_of what) l l' w
+  pub wrote : Put (line_of what) old new
 
-abbrev pub Prints : List ℕ → ℕ → List ℕ → List ℕ → Line → Type 0
-Prints s at l l' (printed.Record size w) = Printed s size at l l' w
-Prints s at l l' printed.Nothing = (record_of (take 2 s) (drop 2 s) ≡ none) × (l' ≡ l)
+abbrev pub Prints : List ℕ → Text → Text → Option ℕ → Type 0
+Prints s old new (Some size) = Printed s size old new
+Prints s old new None = (record_of (take 2 s) (drop 2 s) ≡ none) × Put [] old new

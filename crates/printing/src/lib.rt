@@ -6,15 +6,16 @@ ghost use Rattle.io.specs.Counts.{IsPrefixLen};
 ghost use Rattle.rules.specs.Statements.{present};
 ghost use Rattle.rules.specs.Calls.{full_buffer};
 ghost use Rattle.rules.specs.Decode.{nth};
-ghost use Rattle.records.specs.Marks.{letters_of};
+ghost use Rattle.refusals.specs.Refusals.{numbers as values_of};
 ghost use Rattle.text.specs.Text.{numbers, Put};
 ghost use Rattle.printing.specs.Holds.{Holds, Whole};
 ghost use Rattle.printing.specs.Lines.{line, text_of, refusal_text, answered, printed, records_in};
 ghost use Rattle.printing.specs.Shapes.{nths, Shaped, Prints};
 
-use reader::{FullAnswer, full_read};
-use records::marks::{LD, VC, field_at, fields, known, marked};
-use text::{put, put_all, put_number, put_numbers, put_signed};
+use reader::full_read;
+use records::marks::{Mark, field_at};
+use refusals::Refusal;
+use text::Text;
 
 // How a record is printed: so many fields; VC, whose value is signed; LD with so many bytes.
 #[derive(Drop)]
@@ -22,17 +23,10 @@ enum Shape {
     Fields(usize),
     Value,
     Data(usize),
-    Nothing,
-}
-
-// A record's length, and the place behind its line.
-#[derive(Drop)]
-enum Line {
-    Record(usize, usize),
-    Nothing,
 }
 
 // The i-th field behind a mark.
+#[tactic(auto, using(records::proofs::Fields::field_nth))]
 fn field(s: &[u8], i: usize) -> u32
     requires { 4 * i + 4 ≤ length s.now }
     ensures { result ≡ nth i s.now }
@@ -40,81 +34,74 @@ fn field(s: &[u8], i: usize) -> u32
     field_at(s, 4 * i) as u32
 }
 
-fn shape_of(mark: usize, s: &[u8]) -> Shape
-    ensures { Shaped (letters_of mark) s.now result }
+// How the record with the mark of two letters is printed, whose other bytes are at the head of s.
+fn shape_of(a: u8, b: u8, s: &[u8]) -> Option<Shape>
+    ensures { Shaped (a ∷ b ∷ []) s.now result }
 {
-    if !known(mark) {
-        return Shape::Nothing;
-    }
-    let n = fields(mark);
+    let mark = Mark::of(a, b)?;
+    let n = mark.fields();
     if s.len() < 4 * n {
-        return Shape::Nothing;
+        return None;
     }
-    if mark == VC {
-        return Shape::Value;
-    }
-    if mark == LD {
-        let count = field(s, 2) as usize;
-        if s.len() - 12 < count {
-            return Shape::Nothing;
+    match mark {
+        Mark::VC => Some(Shape::Value),
+        Mark::LD => {
+            let count = field(s, 2) as usize;
+            if s.len() - 12 < count {
+                return None;
+            }
+            Some(Shape::Data(count))
         }
-        return Shape::Data(count);
+        _ => Some(Shape::Fields(n)),
     }
-    Shape::Fields(n)
 }
 
 // The mark and the first n fields.
-fn put_fields(out: &mut [u8], at: usize, a: u8, b: u8, s: &[u8], n: usize) -> usize
+fn put_fields(text: &mut Text, a: u8, b: u8, s: &[u8], n: usize)
     requires { 4 * n ≤ length s.now }
-    ensures { Put at (a ∷ b ∷ numbers (nths n s.now)) out.old out.new result }
+    ensures { Put (a ∷ b ∷ numbers (nths n s.now)) text.old text.new }
 {
-    let mut to = put(out, at, a);
-    to = put(out, to, b);
-    let mut i = 0;
-    while i < n {
-        to = put_number(out, to, field(s, i) as u64);
-        i += 1;
+    text.put(a);
+    text.put(b);
+    for i in 0..n {
+        text.put_number(u64::from(field(s, i)));
     }
-    to
 }
 
-// The line of the record at the head of s.
-fn put_record(out: &mut [u8], at: usize, s: &[u8]) -> Line
-    ensures { Prints s.now at out.old out.new result }
+// The line of the record at the head of s, if one is there: the record's length.
+fn put_record(text: &mut Text, s: &[u8]) -> Option<usize>
+    ensures { Prints s.now text.old text.new result }
 {
-    if s.len() < 2 {
-        return Line::Nothing;
-    }
-    let a = s[0];
-    let b = s[1];
-    let rest = &s[2..];
-    match shape_of(marked(a, b), rest) {
+    let [a, b, rest @ ..] = s else {
+        return None;
+    };
+    let size = match shape_of(*a, *b, rest)? {
         Shape::Fields(n) => {
-            let to = put_fields(out, at, a, b, rest, n);
-            Line::Record(2 + 4 * n, put(out, to, b'\n'))
+            put_fields(text, *a, *b, rest, n);
+            4 * n
         }
         Shape::Value => {
-            let to = put_fields(out, at, a, b, rest, 2);
-            let to = put(out, to, b' ');
-            let to = put_signed(out, to, field(rest, 2));
-            Line::Record(14, put(out, to, b'\n'))
+            put_fields(text, *a, *b, rest, 2);
+            text.put(b' ');
+            text.put_signed(field(rest, 2));
+            12
         }
         Shape::Data(n) => {
-            let to = put_fields(out, at, a, b, rest, 3);
-            let end = 12 + n;
-            let to = put_numbers(out, to, &rest[12..end]);
-            Line::Record(2 + end, put(out, to, b'\n'))
+            put_fields(text, *a, *b, rest, 3);
+            text.put_numbers(&rest[12..12 + n]);
+            12 + n
         }
-        Shape::Nothing => Line::Nothing,
-    }
+    };
+    text.put(b'\n');
+    Some(2 + size)
 }
 
-fn put_end(out: &mut [u8], at: usize, count: u64) -> usize
-    ensures { Put at (line "END" (count ∷ [])) out.old out.new result }
+fn put_end(text: &mut Text, count: u64)
+    ensures { Put (line "END" (count ∷ [])) text.old text.new }
 {
-    let to = put_all(out, at, b"END");
-    let to = put_number(out, to, count);
-    put(out, to, b'\n')
+    text.put_all(b"END");
+    text.put_number(count);
+    text.put(b'\n');
 }
 
 // The text of a listing in `out`, and its length: a line for each record that the bytes begin with, then `END` and their count.
@@ -122,31 +109,31 @@ fn listing_text(listing: &[u8], out: &mut [u8]) -> usize
     ensures holds { Holds (text_of (records_in 0 listing.now)) out.old out.new result }
     ensures listing_len_bound { length (text_of (records_in 0 listing.now)) ≤ 6 * length listing.now + 25 }
 {
+    let mut text = Text { out, at: 0 };
     let mut at = 0;
-    let mut to = 0;
     let mut count: u64 = 0;
-    while at < listing.len() {
-        let Line::Record(size, behind) = put_record(out, to, &listing[at..]) else {
-            return put_end(out, to, count);
-        };
+    // no `for`: a step is a record, whose size is known when it is put
+    while let Some(size) = put_record(&mut text, &listing[at..]) {
         at += size;
-        to = behind;
         count += 1;
     }
-    put_end(out, to, count)
+    put_end(&mut text, count);
+    text.at
 }
 
 // The text of a refusal in `out`, and its length.
-fn refusal_text(number: u32, from: u32, to: u32, first: u32, second: u32, out: &mut [u8]) -> usize
-    ensures { Holds (refusal_text number from to first second) out.old out.new result }
+fn refusal_text(r: &Refusal, out: &mut [u8]) -> usize
+    ensures { Holds (refusal_text (values_of r.now)) out.old out.new result }
 {
-    let at = put_all(out, 0, b"REF");
-    let at = put_number(out, at, number as u64);
-    let at = put_number(out, at, from as u64);
-    let at = put_number(out, at, to as u64);
-    let at = put_number(out, at, first as u64);
-    let at = put_number(out, at, second as u64);
-    put(out, at, b'\n')
+    let mut text = Text { out, at: 0 };
+    text.put_all(b"REF");
+    let first = r.registers.first();
+    let second = r.registers.second();
+    for value in [r.reason.number(), r.from, r.to, first, second] {
+        text.put_number(u64::from(value));
+    }
+    text.put(b'\n');
+    text.at
 }
 
 // The text of what the full read answers, and its length, with `listing` lent to that read. It is whole where `text` has 6 bytes for each
@@ -159,16 +146,14 @@ pub fn answer_text(source: &[u8], listing: &mut [u8], text: &mut [u8]) -> usize
     ensures listing { listing.new ≡ full_buffer present source.now listing.old }
 {
     match full_read(source, listing) {
-        FullAnswer::Written(n) => {
-            let end = n as usize;
-            listing_text(&listing[0..end], text)
-        }
-        FullAnswer::Refused(r) => { refusal_text(r.number, r.from, r.to, r.first, r.second, text) }
+        Ok(n) => listing_text(&listing[..n as usize], text),
+        Err(r) => refusal_text(&r, text),
     }
 }
 
 // What the program `listing` prints of its input, of which n bytes were read: the text of the full read's answer, lent 65,536 bytes for the
-// listing. The input has one byte more than a source may have, so that a longer one is refused. The text has room for every answer.
+// listing. The input has one byte more than a source may have, so that a longer one is refused: it is an array with a length beside it, since
+// a slice could be lent shorter. The text has room for every answer.
 pub fn input_text(
     input: &[u8; 65537],
     n: usize,
@@ -179,10 +164,5 @@ pub fn input_text(
     ensures text { Whole (printed (take n input.now)) text.old text.new result }
     ensures listing { listing.new ≡ full_buffer present (take n input.now) listing.old }
 {
-    let mut end = n;
-    if 65537 < n {
-        end = 65537;
-    }
-    let whole: &[u8] = input;
-    answer_text(&whole[0..end], listing, text)
+    answer_text(&input[..n.min(65537)], listing, text)
 }

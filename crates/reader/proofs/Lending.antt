@@ -1,7 +1,10 @@
 -- The first byte above 127, found byte by byte, and what it says of a source.
 -- Assumes nothing.
-use Rattle.std.specs.Prelude.{if◌then◌else◌}
-use Prim.Native.Nat.{ℕ, suc, ◌+◌, ◌≤◌, ◌<◌}
+use Rattle.std.specs.Prelude.{Option as Maybe, Some, None, Result as Answer, Ok, Err, if◌then◌else◌}
+use Rattle.std.specs.Option.{MatchOption}
+use Rattle.std.specs.Result.{IsErrAnd}
+use Rattle.std.specs.List.{AllWithin, HoldsAt}
+use Prim.Native.Nat.{ℕ, zero, suc, ◌+◌, ◌≤◌, ◌<◌}
 use mathlib.Core.Path.{◌≡◌, refl, sym, ap, subst, ◌∙◌}
 use mathlib.Core.Bool.{Bool, true, false, ◌&&◌}
 use mathlib.Core.List.{List, [], ◌∷◌}
@@ -17,20 +20,28 @@ use borrow.Author.Tests.{lt-ltb, le-ltb, ltb-true, ltb-false, le-leb, lt-leb}
 use Rattle.lexer.specs.Text.{maybe}
 use Rattle.rules.specs.Reader.{Cause, at, nowhere, numbers_of}
 use Rattle.refusals.specs.declared.Refusal.{Refusal}
+use Rattle.refusals.specs.Refusals.{Numbers, numbers, by_numbers, spanned}
 use Rattle.lexer.specs.Tokens.{token_at, size_of, fault_number}
 use Rattle.lexer.specs.Scanned.{next_of}
 use Rattle.lexer.proofs.TokensText.{token_at_le}
 use Rattle.lexer.specs.declared.Token.{Token}
+use Rattle.lexer.specs.declared.BadNumber.{BadNumber}
 use Rattle.lexer.specs.declared.Cursor.{Cursor}
 use Rattle.lexer.specs.declared.Fault.{Fault}
 use Rattle.lexer.specs.declared.TokenRead.{TokenRead}
 use Rattle.lexer.specs.declared.TokenRead.TheVariants as found
-use Rattle.lexer.specs.declared.Next.TheVariants as next
 use Rattle.rules.specs.Calls.{token_read, token_call, Result, gives, refuses, unless, most_bytes, too_long, foreign, ascii, lent, lent_at}
-use Rattle.reader.specs.declared.Lent.TheVariants.{Accepted, Refused}
-use Rattle.reader.specs.declared.TokenAnswer.TheVariants as token
-use Rattle.reader.specs.Calls.{token_answer}
-use Rattle.reader.specs.Lent.{is_ascii, foreign_place, lent_answer, lent_of, lent_at_of}
+use Rattle.reader.specs.declared.ascii.Ascii.{Ascii}
+use Rattle.reader.specs.Calls.{Lends, LendsAt, token_answer}
+use Rattle.reader.specs.Lent.{is_ascii, foreign_place, foreign_of}
+
+-- `?` hands the same refusal on
+pub handed : {A : Type 0} (P : Answer A Refusal → Type 0) (r : Answer A Refusal) {x : Refusal} → IsErrAnd r (λ y. y ≡ x) → P (Err x) → P r
+handed P (Ok a) e h = absurd e
+handed P (Err y) e h = subst (λ (z : Refusal). P (Err z)) (sym e) h
+
+pub handed_numbers : {A : Type 0} (r : Answer A Refusal) (x : Refusal) {e : Answer A Numbers} → IsErrAnd r (λ y. y ≡ x) → by_numbers {A = A} (Err x) ≡ e → by_numbers r ≡ e
+handed_numbers {A} r x {e} = handed (λ (z : Answer A Refusal). by_numbers z ≡ e) r
 
 module _ (s : List ℕ) (i : ℕ) where
   pub foreign_here : i < length s → 127 < get_or s i 0 → foreign i (drop i s) ≡ some i
@@ -98,137 +109,191 @@ foreign_inside p (c ∷ cs) q e = go (ltb 127 c) e (foreign_inside (suc p) cs q)
     go true e h = let k : p ≡ q = cc in omega arith
     go false e h = omega (arith, h e)
 
+-- what a search answers: the first byte above 127, or none
+abbrev pub High : ℕ → Type 0
+High c = 127 < c
+
+abbrev pub Low : ℕ → Type 0
+Low c = c ≤ 127
+
+abbrev pub Searched : List ℕ → Maybe ℕ → Type 0
+Searched s r = MatchOption r (AllWithin Low s 0 (length s)) (λ i. (i < length s) × HoldsAt High s i × AllWithin Low s 0 i)
+
+-- what is said of a source that is one to read
+abbrev good : Result (Unit {0})
+good = gives tt
+
 module _ (s : List ℕ) where
-  pub place_found : {i : ℕ} → foreign 0 s ≡ some i → i ≡ foreign_place s
-  unfolding foreign_place
-  place_found e = rw e
+  none_before : (n : ℕ) → n ≤ length s → AllWithin Low s 0 n → foreign n (drop n s) ≡ foreign 0 s
+  none_before zero h f = refl
+  none_before (suc n) h f =
+      ap (λ (k : ℕ). foreign k (drop k s)) (sym (add-one n))
+      ∙ foreign_on s n (omega arith) (f n 0 (omega arith) (omega arith))
+      ∙ none_before n (omega arith) (λ k d a b. f k d a (omega arith))
+
+  pub searched : (r : Maybe ℕ) → Searched s r → r ≡ foreign_of s
+  unfolding foreign_of
+  searched None f = rw (sym (none_before (length s) (le_refl (length s)) f) ∙ foreign_end s (length s) (le_refl (length s)))
+  searched (Some i) (h, k, f) = rw (sym (none_before i (omega arith) f) ∙ foreign_here s i h (k 0))
+
+  pub none_found : is_ascii s ≡ true → None ≡ foreign_of s
+  unfolding is_ascii foreign_of
+  none_found = go (foreign 0 s)
+    where
+      go : (o : Option ℕ) → maybe o true (λ p. false) ≡ true → ◌≡◌ {A = Maybe ℕ} None (maybe o None (λ p. Some p))
+      go none e = refl
+      go (some p) e = absurd (subst T (sym e) tt)
+
+  none_foreign : None ≡ foreign_of s → foreign 0 s ≡ none
+  unfolding foreign_of
+  none_foreign = go (foreign 0 s)
+    where
+      go : (o : Option ℕ) → ◌≡◌ {A = Maybe ℕ} None (maybe o None (λ p. Some p)) → o ≡ none
+      go none e = refl
+      go (some p) e = cc
+
+  some_foreign : {i : ℕ} → Some i ≡ foreign_of s → foreign 0 s ≡ some i
+  unfolding foreign_of
+  some_foreign {i} = go (foreign 0 s)
+    where
+      go : (o : Option ℕ) → ◌≡◌ {A = Maybe ℕ} (Some i) (maybe o None (λ p. Some p)) → o ≡ some i
+      go none e = cc
+      go (some p) e = let z : p ≡ i = cc in ap some z
 
   pub place_none : {i : ℕ} → foreign 0 s ≡ none → i ≡ length s → i ≡ foreign_place s
   unfolding foreign_place
   place_none e k = rw e k
 
-  pub ascii_place : is_ascii s ≡ true → length s ≡ foreign_place s
-  unfolding is_ascii foreign_place
-  ascii_place = go (foreign 0 s)
-    where
-      go : (o : Option ℕ) → maybe o true (λ p. false) ≡ true → length s ≡ maybe o (length s) (λ p. p)
-      go none e = refl
-      go (some p) e = absurd (subst T (sym e) tt)
+  -- no byte is above 127
+  pub plain : None ≡ foreign_of s → foreign_place s ≡ length s
+  plain e = sym (place_none (none_foreign e) refl)
 
-  some_foreign : {i : ℕ} → i ≡ foreign_place s → i < length s → foreign 0 s ≡ some i
-  unfolding foreign_place
-  some_foreign {i} e h = go (foreign 0 s) refl e
-    where
-      go : (o : Option ℕ) → foreign 0 s ≡ o → i ≡ maybe o (length s) (λ p. p) → foreign 0 s ≡ some i
-      go none f k = absurd (omega arith)
-      go (some p) f k = f ∙ ap some (sym k)
-
-  none_foreign : {i : ℕ} → i ≡ foreign_place s → length s ≤ i → foreign 0 s ≡ none
-  unfolding foreign_place
-  none_foreign {i} e h = go (foreign 0 s) refl e
-    where
-      go : (o : Option ℕ) → foreign 0 s ≡ o → i ≡ maybe o (length s) (λ p. p) → foreign 0 s ≡ none
-      go none f k = f
-      go (some p) f k = absurd (omega (arith, foreign_inside 0 s p f))
+  -- it stands within the source
+  pub foreign_within : {i : ℕ} → Some i ≡ foreign_of s → i < length s
+  foreign_within {i} e = omega (arith, foreign_inside 0 s i (some_foreign e))
 
   pub never_foreign : length s ≡ foreign_place s → foreign 0 s ≡ none
-  never_foreign e = none_foreign e (le_refl (length s))
+  unfolding foreign_place
+  never_foreign = go (foreign 0 s) refl
+    where
+      go : (o : Option ℕ) → foreign 0 s ≡ o → length s ≡ maybe o (length s) (λ p. p) → foreign 0 s ≡ none
+      go none f e = f
+      go (some p) f e = absurd (omega (arith, foreign_inside 0 s p f))
 
-  pub too_long_lem : 65536 < length s → Refused (numbers_of (at 1 0 0)) ≡ lent_of s
-  unfolding lent_of lent unless too_long most_bytes
-  too_long_lem h = rw (lt-ltb 65536 (length s) h)
+  -- What the code answers to the source: 1, 2, or the source; and 42.
+  pub too_long_lem : {r : Refusal} → 65536 < length s → numbers r ≡ spanned 1 0 0 → Lends s (Err r)
+  unfolding lent unless too_long most_bytes
+  too_long_lem h k = record { so = (nowhere 1, rw (lt-ltb 65536 (length s) h), k) }
 
   module _ (h : length s ≤ 65536) where
-    pub is_foreign : {i : ℕ} → i ≡ foreign_place s → i < length s → Refused (numbers_of (at 2 i (i + 1))) ≡ lent_of s
-    unfolding lent_of lent unless too_long most_bytes ascii
-    is_foreign e k = rw (le-ltb 65536 (length s) h, some_foreign e k, add-one)
+    pub is_foreign : {i : ℕ} {r : Refusal} → Some i ≡ foreign_of s → numbers r ≡ spanned 2 i (i + 1) → Lends s (Err r)
+    unfolding lent unless too_long most_bytes ascii
+    is_foreign {i} e k = record { so = (at 2 i (i + 1), rw (le-ltb 65536 (length s) h, some_foreign e, add-one), k) }
 
-    pub all_ascii : {i : ℕ} → i ≡ foreign_place s → length s ≤ i → Accepted ≡ lent_of s
-    unfolding lent_of lent unless too_long most_bytes ascii
-    all_ascii e k = rw (le-ltb 65536 (length s) h, none_foreign e k)
+    pub all_ascii : {v : Ascii} → None ≡ foreign_of s → v.source.text.now ≡ s → Lends s (Ok v)
+    unfolding lent unless too_long most_bytes ascii
+    all_ascii e k = record { so = (rw (le-ltb 65536 (length s) h, none_foreign e), k) }
 
   module _ (p : ℕ) where
-    pub too_far : length s < p → Refused (numbers_of (at 42 0 0)) ≡ lent_at_of s p
-    unfolding lent_at_of lent_at unless
-    too_far h = rw (lt-ltb (length s) p h)
+    pub too_far : {r : Refusal} → length s < p → numbers r ≡ spanned 42 0 0 → LendsAt s p (Err r)
+    unfolding lent_at unless
+    too_far h k = record { so = (nowhere 42, rw (lt-ltb (length s) p h), k) }
 
-    pub not_far : p ≤ length s → lent_of s ≡ lent_at_of s p
-    unfolding lent_at_of lent_of lent_at unless
-    not_far h = rw (le-ltb (length s) p h)
+    pub not_far : {r : Answer Ascii Refusal} → p ≤ length s → Lends s r → LendsAt s p r
+    unfolding lent_at unless
+    not_far {r} h e = go r e
+      where
+        same : lent_at s p good ≡ lent s good
+        same = rw (le-ltb (length s) p h)
 
-never : {r : Refusal} → Refused r ≡ Accepted → ⊥
+        go : (r : Answer Ascii Refusal) → Lends s r → LendsAt s p r
+        go (Ok v) e = record { so = (same ∙ e.so.0, e.so.1) }
+        go (Err x) e = record { so = (e.so.0, same ∙ e.so.1, e.so.2) }
+
+never : {A : Type 0} {a : A} {c : Cause} → gives a ≡ refuses c → ⊥
 never e = let z : ◌≡◌ {A = ℕ} 0 1 = cc in omega arith
 
 -- What the answer says of a call on the source.
 module _ {A : Type 0} (s : List ℕ) (x : Result A) where
-  lent_any : (o : Option ℕ) (b : Bool) → {r : Refusal} → Refused r ≡ lent_answer (unless b (nowhere 1) (maybe {B = Result (Unit {0})} o (gives tt) (λ p. refuses (at 2 p (suc p))))) → (c : Cause) × (unless b (nowhere 1) (maybe {B = Result A} o x (λ p. refuses (at 2 p (suc p)))) ≡ refuses c) × (r ≡ numbers_of c)
+  lent_any : (o : Option ℕ) (b : Bool) {c : Cause} → unless b (nowhere 1) (maybe {B = Result (Unit {0})} o (gives tt) (λ p. refuses (at 2 p (suc p)))) ≡ refuses c → unless b (nowhere 1) (maybe {B = Result A} o x (λ p. refuses (at 2 p (suc p)))) ≡ refuses c
   unfolding unless
-  lent_any o true e = (nowhere 1, refl, cc)
+  lent_any o true e = cc
   lent_any none false e = absurd (never e)
-  lent_any (some p) false e = (at 2 p (suc p), refl, cc)
+  lent_any (some p) false e = cc
 
-  pub lent_refused : {r : Refusal} → Refused r ≡ lent_of s → (c : Cause) × (lent s x ≡ refuses c) × (r ≡ numbers_of c)
-  unfolding lent_of lent ascii
-  lent_refused e = lent_any (foreign 0 s) (too_long s) e
+  refused_so : {c : Cause} → lent s good ≡ refuses c → lent s x ≡ refuses c
+  unfolding lent ascii
+  refused_so e = lent_any (foreign 0 s) (too_long s) e
 
-  pub lent_at_refused : (p : ℕ) {r : Refusal} → Refused r ≡ lent_at_of s p → (c : Cause) × (lent_at s p x ≡ refuses c) × (r ≡ numbers_of c)
-  unfolding lent_at_of lent_at lent_of unless
-  lent_at_refused p {r} e = go (ltb (length s) p) e
+  pub lent_refused : {r : Refusal} → Lends s (Err r) → (c : Cause) × (lent s x ≡ refuses c) × (numbers r ≡ numbers_of c)
+  lent_refused e = (e.so.0, refused_so e.so.1, e.so.2)
+
+  pub lent_at_refused : (p : ℕ) {r : Refusal} → LendsAt s p (Err r) → (c : Cause) × (lent_at s p x ≡ refuses c) × (numbers r ≡ numbers_of c)
+  unfolding lent_at unless
+  lent_at_refused p e = (e.so.0, go (ltb (length s) p) e.so.1, e.so.2)
     where
-      go : (b : Bool) → Refused r ≡ lent_answer (unless b (nowhere 42) (lent s (gives tt))) → (c : Cause) × (unless b (nowhere 42) (lent s x) ≡ refuses c) × (r ≡ numbers_of c)
-      go true e = (nowhere 42, refl, cc)
-      go false e = lent_refused e
+      go : (b : Bool) {c : Cause} → unless b (nowhere 42) (lent s good) ≡ refuses c → unless b (nowhere 42) (lent s x) ≡ refuses c
+      go true e = cc
+      go false e = refused_so e
 
-  pub lent_accepted : Accepted ≡ lent_of s → (lent s x ≡ x) × (length s ≤ 65536) × (foreign_place s ≡ length s)
-  unfolding lent_of lent ascii foreign_place too_long most_bytes unless
-  lent_accepted e = go (ltb 65536 (length s)) refl (foreign 0 s) e
+  accepted_so : lent s good ≡ good → (lent s x ≡ x) × (length s ≤ 65536) × (foreign_place s ≡ length s)
+  unfolding lent ascii foreign_place too_long most_bytes unless
+  accepted_so e = go (ltb 65536 (length s)) refl (foreign 0 s) e
     where
-      go : (b : Bool) → ltb 65536 (length s) ≡ b → (o : Option ℕ) → Accepted ≡ lent_answer (unless b (nowhere 1) (maybe {B = Result (Unit {0})} o (gives tt) (λ p. refuses (at 2 p (suc p)))))
+      go : (b : Bool) → ltb 65536 (length s) ≡ b → (o : Option ℕ) → unless b (nowhere 1) (maybe {B = Result (Unit {0})} o (gives tt) (λ p. refuses (at 2 p (suc p)))) ≡ good
           → (unless b (nowhere 1) (maybe {B = Result A} o x (λ p. refuses (at 2 p (suc p)))) ≡ x) × (length s ≤ 65536) × (maybe o (length s) (λ p. p) ≡ length s)
       go true k o e = absurd (never (sym e))
       go false k none e = (refl, ltb-false 65536 (length s) k, refl)
       go false k (some p) e = absurd (never (sym e))
 
-  pub lent_at_accepted : (p : ℕ) → Accepted ≡ lent_at_of s p → (lent_at s p x ≡ x) × (length s ≤ 65536) × (foreign_place s ≡ length s) × (p ≤ length s)
-  unfolding lent_at_of lent_at lent_of unless
-  lent_at_accepted p e = go (ltb (length s) p) refl e
+  pub lent_accepted : {v : Ascii} → Lends s (Ok v) → (lent s x ≡ x) × (length s ≤ 65536) × (foreign_place s ≡ length s)
+  lent_accepted e = accepted_so e.so.0
+
+  pub lent_at_accepted : (p : ℕ) {v : Ascii} → LendsAt s p (Ok v) → (lent_at s p x ≡ x) × (length s ≤ 65536) × (foreign_place s ≡ length s) × (p ≤ length s)
+  unfolding lent_at unless
+  lent_at_accepted p e = go (ltb (length s) p) refl e.so.0
     where
-      go : (b : Bool) → ltb (length s) p ≡ b → Accepted ≡ lent_answer (unless b (nowhere 42) (lent s (gives tt))) → (unless b (nowhere 42) (lent s x) ≡ x) × (length s ≤ 65536) × (foreign_place s ≡ length s) × (p ≤ length s)
+      go : (b : Bool) → ltb (length s) p ≡ b → unless b (nowhere 42) (lent s good) ≡ good → (unless b (nowhere 42) (lent s x) ≡ x) × (length s ≤ 65536) × (foreign_place s ≡ length s) × (p ≤ length s)
       go true k e = absurd (never (sym e))
-      go false k e = let (i, j, l) = lent_accepted e in (i, j, l, ltb-false (length s) p k)
+      go false k e = let (i, j, l) = accepted_so e in (i, j, l, ltb-false (length s) p k)
 
 -- The token read.
 module _ (s : List ℕ) (p : ℕ) where
-  pub token_denied : {r : Refusal} → Refused r ≡ lent_at_of s p → token.Refused r ≡ token_answer p (token_call s p)
+  pub token_denied : {r : Refusal} → LendsAt s p (Err r) → by_numbers {A = Token × Cursor} (Err r) ≡ token_answer p (token_call s p)
   unfolding token_call
-  token_denied e = let (c, k, h) = lent_at_refused s (token_read p (token_at (drop p s))) p e in rw k (ap token.Refused h)
+  token_denied e = let (c, k, h) = lent_at_refused s (token_read p (token_at (drop p s))) p e in rw k (ap Err h)
 
-  module _ (a : Accepted ≡ lent_at_of s p) where
+  module _ {v : Ascii} (a : LendsAt s p (Ok v)) where
     call_is : token_call s p ≡ token_read p (token_at (drop p s))
     unfolding token_call
     call_is = (lent_at_accepted s (token_read p (token_at (drop p s))) p a).0
 
-    pub token_given : {t : Token} {c : Cursor} → next.Token t c ≡ next_of p (token_at (drop p s)) → token.Read t c ≡ token_answer p (token_call s p)
-    token_given {t} {c} e = go (token_at (drop p s)) e ∙ ap (token_answer p) (sym call_is)
+    pub token_given : {t : Token × Cursor} → Ok t ≡ next_of p (token_at (drop p s)) → by_numbers (Ok t) ≡ token_answer p (token_call s p)
+    token_given {t} e = go (token_at (drop p s)) e ∙ ap (token_answer p) (sym call_is)
       where
-        go : (x : TokenRead) → next.Token t c ≡ next_of p x → token.Read t c ≡ token_answer p (token_read p x)
+        go : (x : TokenRead) → Ok t ≡ next_of p x → by_numbers (Ok t) ≡ token_answer p (token_read p x)
         go (found.Read u) e = cc
         go (found.Refused n f) e = cc
 
-    pub token_refused : {f : Fault} {i j : ℕ} {r : Refusal} → next.Refused f i j ≡ next_of p (token_at (drop p s)) → r ≡ numbers_of (at (fault_number f) i j) → token.Refused r ≡ token_answer p (token_call s p)
-    token_refused {f} {i} {j} e k = ap token.Refused k ∙ go (token_at (drop p s)) e ∙ ap (token_answer p) (sym call_is)
+    bad_is : {f g : Fault} {i j k l : ℕ} → ◌≡◌ {A = Answer (Token × Cursor) BadNumber} (Err (record { fault = f; from = i; to = j })) (Err (record { fault = g; from = k; to = l })) → (f ≡ g) × (i ≡ k) × (j ≡ l)
+    bad_is {f} {g} {i} {j} {k} {l} e =
+        let h : ◌≡◌ {A = BadNumber} (record { fault = f; from = i; to = j }) (record { fault = g; from = k; to = l }) = cc in
+        (ap (λ (b : BadNumber). b.fault) h, ap (λ (b : BadNumber). b.from) h, ap (λ (b : BadNumber). b.to) h)
+
+    pub token_refused : (r : Refusal) {f : Fault} {n i j : ℕ} → Err (record { fault = f; from = i; to = j }) ≡ next_of p (token_at (drop p s)) → n ≡ fault_number f → numbers r ≡ spanned n i j → by_numbers {A = Token × Cursor} (Err r) ≡ token_answer p (token_call s p)
+    token_refused r {f} {n} {i} {j} e k h = ap Err (h ∙ ap (λ (n : ℕ). spanned n i j) k) ∙ go (token_at (drop p s)) e ∙ ap (token_answer p) (sym call_is)
       where
-        go : (x : TokenRead) → next.Refused f i j ≡ next_of p x → token.Refused (numbers_of (at (fault_number f) i j)) ≡ token_answer p (token_read p x)
+        go : (x : TokenRead) → Err (record { fault = f; from = i; to = j }) ≡ next_of p x → Err (spanned (fault_number f) i j) ≡ token_answer p (token_read p x)
         go (found.Read u) e = cc
-        go (found.Refused n g) e = let h : f ≡ g = cc in let l : i ≡ p = cc in let m : j ≡ p + n = cc in rw (h, l, m)
+        go (found.Refused n g) e = let (h, l, m) = bad_is e in rw (h, l, m)
 
     -- a refused number stands within the source
-    pub within : {f : Fault} {i j : ℕ} → next.Refused f i j ≡ next_of p (token_at (drop p s)) → (i ≤ 65536) × (j ≤ 65536)
+    pub within : {f : Fault} {i j : ℕ} → Err (record { fault = f; from = i; to = j }) ≡ next_of p (token_at (drop p s)) → (i ≤ 65536) × (j ≤ 65536)
     within {f} {i} {j} e = go (token_at (drop p s)) (token_at_le (drop p s)) e
       where
         short : (length s ≤ 65536) × (p ≤ length s)
         short = let b = lent_at_accepted s (token_read p (token_at (drop p s))) p a in (b.1, b.3)
 
-        go : (x : TokenRead) → size_of x ≤ length (drop p s) → next.Refused f i j ≡ next_of p x → (i ≤ 65536) × (j ≤ 65536)
+        go : (x : TokenRead) → size_of x ≤ length (drop p s) → Err (record { fault = f; from = i; to = j }) ≡ next_of p x → (i ≤ 65536) × (j ≤ 65536)
         go (found.Read u) k e = let z : ◌≡◌ {A = ℕ} 0 1 = cc in absurd (omega arith)
-        go (found.Refused n g) k e = let l : i ≡ p = cc in let m : j ≡ p + n = cc in let q = length-drop p s in (omega (arith, short), omega (arith, short))
+        go (found.Refused n g) k e = let (h, l, m) = bad_is e in let q = length-drop p s in (omega (arith, short), omega (arith, short))

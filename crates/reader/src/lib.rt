@@ -1,51 +1,28 @@
 // The calls that read a source: a token, a statement, or all of it. A refusal leaves the buffer as it was.
 #![tactic(auto)]
 
-ghost use Rattle.std.specs.Prelude.{◌≡◌, ◌≤◌, ◌<◌, length};
-ghost use Rattle.names.specs.Table.{operations};
-ghost use Rattle.rules.specs.Calls.{Short};
+ghost use Rattle.std.specs.Prelude.{◌≡◌, ◌≤◌, length};
+ghost use Rattle.lexer.specs.Tokens.{fault_number};
+ghost use Rattle.refusals.specs.Refusals.{number_of, by_numbers};
 ghost use Rattle.rules.specs.Calls as rules;
 ghost use Rattle.rules.specs.Statements.{present};
-ghost use Rattle.reader.specs.Lent.{is_ascii, foreign_place, lent_of, lent_at_of};
-ghost use Rattle.statements.specs.Statements.{Started};
-ghost use Rattle.reader.specs.Calls.{ReadsAll, OneRead, FullReads, token_answer, statement_answer};
-ghost use Rattle.lexer.specs.Tokens.{fault_number};
+ghost use Rattle.reader.specs.Lent.{is_ascii, foreign_of};
+ghost use Rattle.reader.specs.Calls.{Lends, LendsAt, ReadsAll, OneRead, FullReads, token_answer, statement_answer};
 
-use lexer::{Cursor, Fault, Next, Token};
-use refusals::{
-    BINARY_LARGER_DIGIT, LISTING_NO_ROOM, NO_SUCH_PLACE, NOT_ASCII, PREFIXED_TOO_LARGE, Refusal,
-    SOURCE_TOO_LONG, refused_at,
-};
-use state::{Parsed, Parser, Step};
+use ascii::Ascii;
+use lexer::{BadNumber, Cursor, Fault, Token};
+use records::Writer;
+use refusals::{Reason, Refusal, refused_at};
+use state::source::Source;
 use statements::{StatementRead, start, statement, statements};
 
-// The token and the state behind it.
-#[derive(Clone, Copy)]
-pub enum TokenAnswer {
-    Read(Token, Cursor),
-    Refused(Refusal),
-}
+pub mod ascii;
 
-// How many bytes were written, and the place of the token ahead.
+// A statement that was read: how many bytes were written, and the place of the token ahead.
 #[derive(Clone, Copy)]
-pub enum StatementAnswer {
-    Written(u32, u32),
-    NoneLeft,
-    Refused(Refusal),
-}
-
-// How many bytes were written.
-#[derive(Clone, Copy)]
-pub enum FullAnswer {
-    Written(u32),
-    Refused(Refusal),
-}
-
-// Whether the source is one to read: 42, 1 and 2.
-#[derive(Clone, Copy)]
-pub enum Lent {
-    Accepted,
-    Refused(Refusal),
+pub struct Written {
+    pub length: u32,
+    pub ahead: u32,
 }
 
 // The most bytes that a source may have.
@@ -56,237 +33,165 @@ fn is_ascii(source: &[u8]) -> bool
     ensures { result ≡ is_ascii source.now }
 {
     let mut most: u8 = 0;
-    let mut i: usize = 0;
-    while i < source.len() {
-        let c = source[i];
-        if most < c {
-            most = c;
+    for c in source {
+        if most < *c {
+            most = *c;
         }
-        i += 1;
     }
     most <= 127
 }
 
-// The place of the first byte above 127, or the source's length.
-fn foreign(source: &[u8]) -> usize
-    ensures { result ≡ foreign_place source.now }
+// The place of the first byte above 127, if there is one.
+fn foreign(source: &[u8]) -> Option<usize>
+    ensures { result ≡ foreign_of source.now }
 {
     if is_ascii(source) {
-        return source.len();
+        return None;
     }
-    let mut i: usize = 0;
-    while i < source.len() {
-        if 127 < source[i] {
-            return i;
-        }
-        i += 1;
-    }
-    i
+    source.iter().position(|c| 127 < *c)
 }
 
 // 1 and 2, over the whole source.
-pub fn readable(source: &[u8]) -> Lent
-    ensures { result ≡ lent_of source.now }
+pub fn readable(source: &[u8]) -> Result<Ascii<'_>, Refusal>
+    ensures { Lends source.now result }
 {
     if SOURCE_MAX < source.len() {
-        return Lent::Refused(refused_at(SOURCE_TOO_LONG, 0, 0));
+        return Err(refused_at(Reason::SourceTooLong, 0, 0));
     }
-    let place = foreign(source);
-    if place < source.len() {
-        let from = place as u32;
-        return Lent::Refused(refused_at(NOT_ASCII, from, from + 1));
+    match foreign(source) {
+        Some(place) => {
+            let from = place as u32;
+            Err(refused_at(Reason::NotAscii, from, from + 1))
+        }
+        None => Ok(Ascii {
+            source: Source { text: source },
+        }),
     }
-    Lent::Accepted
 }
 
 // The same, after 42.
-fn readable_at(source: &[u8], place: usize) -> Lent
-    ensures { result ≡ lent_at_of source.now place }
+fn readable_at(source: &[u8], place: usize) -> Result<Ascii<'_>, Refusal>
+    ensures { LendsAt source.now place result }
 {
     if source.len() < place {
-        return Lent::Refused(refused_at(NO_SUCH_PLACE, 0, 0));
+        return Err(refused_at(Reason::NoSuchPlace, 0, 0));
     }
     readable(source)
 }
 
-// All statements, read into `kept`, and copied where they fit there; else read again into `out`.
-fn keep_and_copy(
-    source: &[u8],
-    table: &[u8],
-    kept: &mut [u8],
-    out: &mut [u8],
-    p: Parser,
-) -> FullAnswer
-    requires { Short source.now × (foreign_place source.now ≡ length source.now) × (table.now ≡ operations) × Started source.now 0 p }
-    ensures { ReadsAll source.now out.old out.new result }
+// All statements, read into a local buffer of N bytes, and copied where they fit there; else read again into `out`.
+#[inline(never)]
+fn kept_in<const N: usize>(source: Ascii<'_>, out: &mut [u8]) -> Result<u32, Refusal>
+    requires { N ≤ 262144 }
+    ensures { ReadsAll source.entry.source.text.now out.old out.new result }
 {
-    match statements(source, table, kept, 0, p) {
-        Parsed::Refused(r) => FullAnswer::Refused(r),
-        Parsed::Done(_, n) => {
-            let size = n as usize;
-            if out.len() < size {
-                return FullAnswer::Refused(refused_at(LISTING_NO_ROOM, 0, 0));
-            }
-            if size <= kept.len() {
-                lines::copy(out, 0, &kept[0..size]);
-                return FullAnswer::Written(n);
-            }
-            match statements(source, table, out, 0, p) {
-                Parsed::Refused(r) => FullAnswer::Refused(r),
-                Parsed::Done(_, _) => FullAnswer::Written(n),
-            }
-        }
+    let source = source.source;
+    let table = names::operations();
+    let p = start(source, 0)?;
+    let mut buffer = [0u8; N];
+    let kept: &mut [u8] = &mut buffer;
+    let mut first = Writer { out: kept, at: 0 };
+    statements(source, table, &mut first, p)?;
+    let n = first.at;
+    let size = n as usize;
+    if out.len() < size {
+        Err(refused_at(Reason::ListingNoRoom, 0, 0))
+    } else if size <= N {
+        lines::copy(out, 0, &kept[0..size]);
+        Ok(n)
+    } else {
+        let mut again = Writer { out, at: 0 };
+        statements(source, table, &mut again, p)?;
+        Ok(n)
     }
 }
 
-// They are kept in a local buffer of four times the source or more, which most listings fit; a larger one would cost more to clear.
-fn all_statements(source: &[u8], table: &[u8], out: &mut [u8], p: Parser) -> FullAnswer
-    requires { Short source.now × (foreign_place source.now ≡ length source.now) × (table.now ≡ operations) × Started source.now 0 p }
-    ensures { ReadsAll source.now out.old out.new result }
+// They are kept in four times the source or more, which most listings fit; a larger buffer would cost more to clear.
+fn read_all(source: Ascii<'_>, out: &mut [u8]) -> Result<u32, Refusal>
+    ensures { ReadsAll source.entry.source.text.now out.old out.new result }
 {
-    if source.len() <= 1024 {
-        let mut kept = [0u8; 4096];
-        return keep_and_copy(source, table, &mut kept, out, p);
-    }
-    if source.len() <= 4096 {
-        let mut kept = [0u8; 16384];
-        return keep_and_copy(source, table, &mut kept, out, p);
-    }
-    if source.len() <= 16384 {
-        let mut kept = [0u8; 65536];
-        return keep_and_copy(source, table, &mut kept, out, p);
-    }
-    let mut kept = [0u8; 262144];
-    keep_and_copy(source, table, &mut kept, out, p)
-}
-
-// All statements of a source that may be read.
-fn read_all(source: &[u8], out: &mut [u8]) -> FullAnswer
-    requires { Short source.now × (foreign_place source.now ≡ length source.now) }
-    ensures { ReadsAll source.now out.old out.new result }
-{
-    match start(source, 0) {
-        Step::Stopped(r) => FullAnswer::Refused(r),
-        Step::Ahead(p) => {
-            let table = names::table();
-            all_statements(source, &table, out, p)
-        }
-    }
-}
-
-// The same with no buffer of its own: they are measured, and where they fit read again into `out`.
-fn read_lean(source: &[u8], out: &mut [u8]) -> FullAnswer
-    requires { Short source.now × (foreign_place source.now ≡ length source.now) }
-    ensures { ReadsAll source.now out.old out.new result }
-{
-    match start(source, 0) {
-        Step::Stopped(r) => FullAnswer::Refused(r),
-        Step::Ahead(p) => {
-            let table = names::table();
-            let mut nothing = [0u8; 0];
-            keep_and_copy(source, &table, &mut nothing, out, p)
-        }
+    match source.source.text.len() {
+        0..=1024 => kept_in::<4096>(source, out),
+        1025..=4096 => kept_in::<16384>(source, out),
+        4097..=16384 => kept_in::<65536>(source, out),
+        _ => kept_in::<262144>(source, out),
     }
 }
 
 // All statements of a source: their records in `out`, if there is room for all of them.
-pub fn full_read(source: &[u8], out: &mut [u8]) -> FullAnswer
+pub fn full_read(source: &[u8], out: &mut [u8]) -> Result<u32, Refusal>
     ensures { FullReads source.now out.old out.new result }
 {
-    match readable(source) {
-        Lent::Refused(r) => FullAnswer::Refused(r),
-        Lent::Accepted => read_all(source, out),
-    }
+    read_all(readable(source)?, out)
 }
 
 // The full read for a short stack: the same answers and bytes, read twice.
-pub fn full_read_lean(source: &[u8], out: &mut [u8]) -> FullAnswer
+pub fn full_read_lean(source: &[u8], out: &mut [u8]) -> Result<u32, Refusal>
     ensures { FullReads source.now out.old out.new result }
 {
-    match readable(source) {
-        Lent::Refused(r) => FullAnswer::Refused(r),
-        Lent::Accepted => read_lean(source, out),
-    }
+    kept_in::<0>(readable(source)?, out)
 }
 
-// Measured first, and written where it fits.
-fn one_statement(
-    source: &[u8],
-    place: u32,
-    table: &[u8],
-    out: &mut [u8],
-    p: Parser,
-) -> StatementAnswer
-    requires { Short source.now × (foreign_place source.now ≡ length source.now) × (place ≤ length source.now) × (table.now ≡ operations)
-        × Started source.now place p }
-    ensures { OneRead source.now place out.old out.new result }
+// The statement at a place of a source that is one to read: measured first, and written where it fits.
+fn read_one(source: Ascii<'_>, place: u32, out: &mut [u8]) -> Result<Option<Written>, Refusal>
+    requires { place ≤ length source.source.text.now }
+    ensures { OneRead source.entry.source.text.now place out.old out.new result }
 {
+    let source = source.source;
+    let table = names::operations();
+    let p = start(source, place)?;
     let mut nothing = [0u8; 0];
-    match statement(source, table, &mut nothing, 0, p) {
-        StatementRead::Refused(r) => StatementAnswer::Refused(r),
-        StatementRead::NoneLeft(_) => StatementAnswer::NoneLeft,
-        StatementRead::Read(q, n) => {
-            let bytes = n as usize;
-            if out.len() < bytes {
-                return StatementAnswer::Refused(refused_at(LISTING_NO_ROOM, 0, 0));
-            }
-            match statement(source, table, out, 0, p) {
-                StatementRead::Refused(r) => StatementAnswer::Refused(r),
-                StatementRead::NoneLeft(_) => StatementAnswer::NoneLeft,
-                StatementRead::Read(_, _) => StatementAnswer::Written(n, q.token_start),
-            }
-        }
+    let mut measured = Writer {
+        out: &mut nothing,
+        at: 0,
+    };
+    let StatementRead::Read(q) = statement(source, table, &mut measured, p)? else {
+        return Ok(None);
+    };
+    let length = measured.at;
+    if out.len() < length as usize {
+        return Err(refused_at(Reason::ListingNoRoom, 0, 0));
     }
-}
-
-// The statement at a place of a source that is one to read.
-fn read_one(source: &[u8], place: u32, out: &mut [u8]) -> StatementAnswer
-    requires { Short source.now × (foreign_place source.now ≡ length source.now) × (place ≤ length source.now) }
-    ensures { OneRead source.now place out.old out.new result }
-{
-    match start(source, place) {
-        Step::Stopped(r) => StatementAnswer::Refused(r),
-        Step::Ahead(p) => {
-            let table = names::table();
-            one_statement(source, place, &table, out, p)
-        }
-    }
+    let mut written = Writer { out, at: 0 };
+    statement(source, table, &mut written, p)?;
+    Ok(Some(Written {
+        length,
+        ahead: q.token_start,
+    }))
 }
 
 // The statement at a place: its records in `out`, if there is room for all of them.
-pub fn statement_read(source: &[u8], place: usize, out: &mut [u8]) -> StatementAnswer
-    ensures answer { result ≡ statement_answer (rules.statement_call present source.now place (length out.old)) }
+pub fn statement_read(
+    source: &[u8],
+    place: usize,
+    out: &mut [u8],
+) -> Result<Option<Written>, Refusal>
+    ensures answer { by_numbers result ≡ statement_answer (rules.statement_call present source.now place (length out.old)) }
     ensures buffer { out.new ≡ rules.statement_buffer present source.now place out.old }
 {
-    match readable_at(source, place) {
-        Lent::Refused(r) => StatementAnswer::Refused(r),
-        Lent::Accepted => read_one(source, place as u32, out),
-    }
+    read_one(readable_at(source, place)?, place as u32, out)
 }
 
-fn fault_number(fault: Fault) -> u32
-    ensures { result ≡ fault_number fault }
+// No `From`, since the lexer has the one type and `refusals` the other.
+fn reason_of(fault: Fault) -> Reason
+    ensures { number_of result ≡ fault_number fault }
 {
     match fault {
-        Fault::LargerDigit => BINARY_LARGER_DIGIT,
-        Fault::TooLarge => PREFIXED_TOO_LARGE,
+        Fault::LargerDigit => Reason::BinaryLargerDigit,
+        Fault::TooLarge => Reason::PrefixedTooLarge,
     }
 }
 
 // The token at a place, and the state behind it.
-pub fn token_read(source: &[u8], place: usize) -> TokenAnswer
-    ensures { result ≡ token_answer place (rules.token_call source.now place) }
+pub fn token_read(source: &[u8], place: usize) -> Result<(Token, Cursor), Refusal>
+    ensures { by_numbers result ≡ token_answer place (rules.token_call source.now place) }
 {
-    match readable_at(source, place) {
-        Lent::Refused(r) => TokenAnswer::Refused(r),
-        Lent::Accepted => {
-            let cursor = Cursor { pos: place };
-            match cursor.next_token(source) {
-                Next::Token(token, after) => TokenAnswer::Read(token, after),
-                Next::Refused(fault, from, to) => {
-                    TokenAnswer::Refused(refused_at(fault_number(fault), from as u32, to as u32))
-                }
-            }
+    readable_at(source, place)?;
+    let cursor = Cursor { pos: place };
+    match cursor.next_token(source) {
+        Ok(read) => Ok(read),
+        Err(BadNumber { fault, from, to }) => {
+            Err(refused_at(reason_of(fault), from as u32, to as u32))
         }
     }
 }

@@ -1,4 +1,5 @@
 pub mod Writes
+pub mod Writers
 pub mod Fields
 pub mod Marking
 pub mod Listed

@@ -3,64 +3,22 @@
 use Rattle.std.specs.Prelude.{if◌then◌else◌}
 use mathlib.Core.Path.{◌≡◌, refl, sym, ap, ◌∙◌}
 use mathlib.Core.Bool.{Bool, true, false, ◌||◌, true≢false, false≢true}
-use mathlib.Core.List.{List, [], ◌∷◌, map}
+use mathlib.Core.List.{List, [], ◌∷◌}
 use mathlib.Core.Option.{Option, none, some}
-use Prim.Native.Nat.{ℕ, ◌+◌, ◌*◌, ◌≤◌}
+use Prim.Native.Nat.{ℕ, ◌+◌, ◌≤◌}
 use native.Mathlib.Omega.{arith}
-use lib.Dec.{eqb}
 use lib.ListN.{length, get_or}
-use borrow.Author.Tests.{eqb-true}
-use Rattle.lexer.specs.Text.{maybe, among, bytes, same}
-use Rattle.rules.specs.Records.{Role, a_statement, a_times, an_expression, an_operand, a_line, Form, forms, form_in, form_of, Cell, a_place, a_number, a_signed, cells, cells_of}
+use Rattle.lexer.specs.Text.{maybe, bytes, same}
+use Rattle.rules.specs.Records.{Role, a_statement, a_times, an_expression, an_operand, a_line, Form, form_of, Cell, a_place, a_number, a_signed, cells, cells_of}
 use Rattle.rules.specs.Patch.{begins_from}
 use Rattle.rules.proofs.Forms.{same_true, found}
+use Rattle.records.specs.declared.marks.Mark.{Mark}
+use Rattle.records.specs.declared.marks.Mark.TheVariants as mark
 use Rattle.records.specs.Marks.{letters_of, is_known, count_of}
-
--- x is none of some numbers, as the rest of a match says it
-abbrev pub Away : ℕ → List ℕ → Type 0 → Type 0
-Away x [] P = P
-Away x (k ∷ ks) P = Away x ks (P × (x ≡ k → ⊥))
-
-abbrev None : ℕ → List ℕ → Type 0
-None x [] = Unit {0}
-None x (k ∷ ks) = (x ≡ k → ⊥) × None x ks
-
-away_none : (x : ℕ) (ks : List ℕ) (P : Type 0) → Away x ks P → P × None x ks
-away_none x [] P h = (h, tt)
-away_none x (k ∷ ks) P h = let ((p, n), r) = away_none x ks (P × (x ≡ k → ⊥)) h in (p, (n, r))
 
 pub or_other : (b c : Bool) → b || c ≡ true → (b ≡ true → ⊥) → c ≡ true
 or_other true c h n = absurd (n refl)
 or_other false c h n = h
-
--- a mark as a number
-abbrev code_of : Form → ℕ
-code_of w = 256 * get_or (bytes w.mark) 0 0 + get_or (bytes w.mark) 1 0
-
-unlike : (x : ℕ) (m : List ℕ) → (x ≡ 256 * get_or m 0 0 + get_or m 1 0 → ⊥) → (b : Bool) → same (letters_of x) m ≡ b → b ≡ false
-unlike x m h false e = refl
-unlike x m h true e = let i : letters_of x ≡ m = same_true (letters_of x) m e in absurd (h (rw (← i) (omega arith)))
-
-none_in : (x : ℕ) (ws : List Form) → None x (map code_of ws) → form_in ws (letters_of x) ≡ none
-unfolding form_in
-none_in x [] h = refl
-none_in x (w ∷ ws) h = rw (unlike x (bytes w.mark) h.0 (same (letters_of x) (bytes w.mark)) refl) (none_in x ws h.1)
-
--- the rest of a match on all the marks
-pub no_form : (x : ℕ) → Away x (0x5354 ∷ 0x5643 ∷ 0x564c ∷ 0x5649 ∷ 0x5653 ∷ 0x5046 ∷ 0x494e ∷ 0x4f52 ∷ 0x4f53 ∷ 0x4f49 ∷ 0x4f46 ∷ 0x4f44 ∷ 0x4f58 ∷ 0x4c4c ∷ 0x4c49 ∷ 0x4c44 ∷ 0x4c43 ∷ 0x4c54 ∷ []) (Unit {0})
-    → form_of (letters_of x) ≡ none
-unfolding form_of
-no_form x h = none_in x forms (away_none x (map code_of forms) (Unit {0}) h).1
-
-pub known_by : {m x : ℕ} → m ≡ x → is_known (letters_of x) ≡ true → true ≡ is_known (letters_of m)
-known_by e f = rw e (sym f)
-
-pub not_known : (x : ℕ) → form_of (letters_of x) ≡ none → false ≡ is_known (letters_of x)
-unfolding is_known
-not_known x e = rw e
-
-pub count_by : {m x k : ℕ} → m ≡ x → count_of (letters_of x) ≡ k → k ≡ count_of (letters_of m)
-count_by e f = rw e (sym f)
 
 -- its fields and their count, of a record that has a description
 pub cells_are : (m : List ℕ) (w : Form) → form_of m ≡ some w → cells_of m ≡ cells w.holds
@@ -83,27 +41,6 @@ known_none m h = go (form_of m) h
 pub known_some : (m : List ℕ) → form_of m ≡ none → is_known m ≡ true → ⊥
 unfolding is_known
 known_some m e h = false≢true (sym (ap (λ (o : Option Form). maybe o false (λ w. true)) e) ∙ h)
-
--- the rest of a match on the marks of records that have other than two fields
-not_among : (x : ℕ) (ks : List ℕ) → None x ks → among x ks ≡ true → ⊥
-unfolding among
-not_among x [] h e = false≢true e
-not_among x (k ∷ ks) h e = not_among x ks h.1 (or_other (eqb x k) (among x ks) e (λ i. h.0 (eqb-true x k i)))
-
-abbrev others : List ℕ
-others = 0x5354 ∷ 0x5643 ∷ 0x5046 ∷ 0x494e ∷ 0x4f52 ∷ 0x4f53 ∷ 0x4f44 ∷ 0x4f58 ∷ 0x4c49 ∷ 0x4c44 ∷ []
-
-two_counted : (x : ℕ) → None x others → (o : Option Form) → form_of (letters_of x) ≡ o → 2 ≡ count_of (letters_of x)
-unfolding count_of among
-two_counted x h none e = rw e
-two_counted x h (some w) e =
-    let (t, j) = found (λ v. among (code_of v) others || eqb (length (cells v.holds) + (if v.laden then 1 else 0)) 2) (letters_of x) w refl e in
-    let c : code_of w ≡ x = rw (← j) (omega arith) in
-    let n : length (cells w.holds) + (if w.laden then 1 else 0) ≡ 2 = eqb-true _ 2 (or_other (among (code_of w) others) _ t (λ i. not_among x others h (rw c at i))) in
-    sym (count_of_lem (letters_of x) w e ∙ n)
-
-pub two_others : (x : ℕ) → Away x (0x5354 ∷ 0x5643 ∷ 0x5046 ∷ 0x494e ∷ 0x4f52 ∷ 0x4f53 ∷ 0x4f44 ∷ 0x4f58 ∷ 0x4c49 ∷ 0x4c44 ∷ []) (Unit {0}) → 2 ≡ count_of (letters_of x)
-two_others x h = two_counted x (away_none x others (Unit {0}) h).1 (form_of (letters_of x)) refl
 
 -- only ST has fewer than two
 unfoldable two_cells : List Cell → Bool
@@ -186,3 +123,25 @@ other_marks m w e lt st li =
     spanned (cells w.holds) (or_other (same a (bytes "LI")) _
     (or_other (same a (bytes "ST")) _
     (or_other (same a (bytes "LT")) _ h (λ i. lt (j ∙ same_true a (bytes "LT") i))) (λ i. st (j ∙ same_true a (bytes "ST") i))) (λ i. li (j ∙ same_true a (bytes "LI") i)))
+
+-- a mark's letters, one by one
+pub two_letters : (m : Mark) → get_or (letters_of m) 0 0 ∷ get_or (letters_of m) 1 0 ∷ [] ≡ letters_of m
+unfolding bytes
+two_letters mark.ST = refl
+two_letters mark.VC = refl
+two_letters mark.VL = refl
+two_letters mark.VI = refl
+two_letters mark.VS = refl
+two_letters mark.PF = refl
+two_letters mark.IN = refl
+two_letters mark.OR = refl
+two_letters mark.OS = refl
+two_letters mark.OI = refl
+two_letters mark.OF = refl
+two_letters mark.OD = refl
+two_letters mark.OX = refl
+two_letters mark.LL = refl
+two_letters mark.LI = refl
+two_letters mark.LD = refl
+two_letters mark.LC = refl
+two_letters mark.LT = refl

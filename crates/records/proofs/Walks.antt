@@ -4,9 +4,9 @@ use mathlib.Core.Path.{◌≡◌, refl, sym, ap, ap₂, ◌∙◌}
 use mathlib.Core.Bool.{true, false, false≢true}
 use mathlib.Core.List.{List, [], ◌∷◌, ◌++◌, append_assoc, append-nil}
 use mathlib.Core.Option.{some}
-use Prim.Native.Nat.{ℕ, ◌+◌, ◌-◌, ◌≤◌, ◌<◌, zero-le}
+use Prim.Native.Nat.{ℕ, ◌+◌, ◌-◌, ◌≤◌, zero-le}
 use native.Mathlib.Omega.{arith}
-use lib.ListN.{length, take, drop, get_or, take-append-drop, length-append, drop_of_length-le}
+use lib.ListN.{length, take, drop, take-append-drop, length-append, drop_of_length-le}
 use lib.Seq.{take_at, drop_at, drop-drop, take_all, length-take-le}
 use Rattle.lexer.specs.Text.{bytes}
 use Rattle.rules.specs.Records.{Record, plain, laden, mark_of, fields_of, Cell, a_place, a_number, a_signed, cells, cells_of, field, fields, encode, listing, move_cells, move_record}
@@ -15,13 +15,14 @@ use Rattle.rules.specs.Patch.{statement_from, records_below, records_on}
 use Rattle.rules.proofs.Decoded.{AllLow, Ranged, value_field, tail_of, parts}
 use Rattle.rules.proofs.PatchBytes.{length_moved}
 use Rattle.records.specs.Writes.{stores}
+use Rattle.records.specs.declared.marks.Mark.{Mark}
+use Rattle.records.specs.declared.marks.Mark.TheVariants as M
 use Rattle.records.specs.Marks.{letters_of, field_at}
 use Rattle.records.specs.Moves.{records_at, Decodes, First, record_at, Opens, move_field, moved_bytes}
 use Rattle.records.proofs.Writes.{stores_room, stores_length}
-use Rattle.records.proofs.Fields.{letters}
 use Rattle.records.proofs.Marking.{cells_are, no_place, Spanned, other_marks}
 use Rattle.records.proofs.Listed.{records_are, decodes}
-use Rattle.records.proofs.OneRecord.{Stands, stands, letter_not, room_six}
+use Rattle.records.proofs.OneRecord.{Stands, stands, marked, letter_not}
 
 -- ONE RECORD MOVED IN ITS PLACE.
 module _ (q p : ℕ) where
@@ -105,11 +106,11 @@ module _ (q p : ℕ) where
       among X Y m b t h =
           ap (λ (s : List ℕ). X ++ (s ++ Y)) h ∙ ap (λ (s : List ℕ). X ++ s) (append_assoc m (b ++ t) Y ∙ ap (λ (s : List ℕ). m ++ s) (append_assoc b t Y)) ∙ sym (append_assoc X m (b ++ (t ++ Y)))
 
-  module _ {l : List ℕ} {at mark : ℕ} (o : Opens l at mark) where
+  module _ {l : List ℕ} {at : ℕ} {mark : Mark} (o : Opens l at mark) where
     -- the moved record among the other bytes
     stored : stores l at (encode (move_record shift (record_at l at))) ≡ take at l ++ (encode (move_record shift (record_at l at)) ++ listing (stands o).rest)
     stored =
-        let w : Stands l at mark = stands o in
+        let w : Stands l at = stands o in
         let r : Record = record_at l at in
         let E : List ℕ = encode (move_record shift r) in
         let n : length E ≡ length (encode r) = length_moved shift r in
@@ -118,40 +119,36 @@ module _ (q p : ℕ) where
 
     record_moved : (cs : List Cell) → cells_of (letters_of mark) ≡ cs → moved_at cs l at 2 ≡ stores l at (encode (move_record shift (record_at l at)))
     record_moved cs c =
-        let w : Stands l at mark = stands o in
+        let w : Stands l at = stands o in
         let r : Record = record_at l at in
         let s : l ≡ take at l ++ (encode r ++ listing w.rest) = sym (take-append-drop at l) ∙ ap (λ (x : List ℕ). take at l ++ x) w.bytes' in
-        ap₂ (λ (d : List Cell) (x : List ℕ). moved_at d x at 2) (sym (ap cells_of w.marked ∙ c)) s
-        ∙ moved_bytes_lem r w.ranged (take at l) (listing w.rest) at (length-take-le at l (omega (arith, o.there))) (ap length w.marked) ∙ sym stored
+        ap₂ (λ (d : List Cell) (x : List ℕ). moved_at d x at 2) (sym (ap cells_of (marked o) ∙ c)) s
+        ∙ moved_bytes_lem r w.ranged (take at l) (listing w.rest) at (length-take-le at l (omega (arith, o.there))) (ap length w.letters) ∙ sym stored
 
-    pub moved_times : mark ≡ 0x4c54 → l ≡ stores l at (encode (move_record shift (record_at l at)))
+    pub moved_times : mark ≡ M.LT → l ≡ stores l at (encode (move_record shift (record_at l at)))
     unfolding moved_at cells_of
-    moved_times e = record_moved (a_number ∷ a_number ∷ []) (ap (λ (m : ℕ). cells_of (letters_of m)) e)
+    moved_times e = record_moved (a_number ∷ a_number ∷ []) (ap (λ (m : Mark). cells_of (letters_of m)) e)
 
-    pub moved_statement : mark ≡ 0x5354 → move_field q p l (at + 2) ≡ stores l at (encode (move_record shift (record_at l at)))
+    pub moved_statement : mark ≡ M.ST → move_field q p l (at + 2) ≡ stores l at (encode (move_record shift (record_at l at)))
     unfolding moved_at cells_of
-    moved_statement e = record_moved (a_place ∷ []) (ap (λ (m : ℕ). cells_of (letters_of m)) e)
+    moved_statement e = record_moved (a_place ∷ []) (ap (λ (m : Mark). cells_of (letters_of m)) e)
 
-    pub moved_line : mark ≡ 0x4c49 → move_field q p (move_field q p (move_field q p (move_field q p l (at + 2)) (at + 6)) (at + 18)) (at + 22) ≡ stores l at (encode (move_record shift (record_at l at)))
+    pub moved_line : mark ≡ M.LI → move_field q p (move_field q p (move_field q p (move_field q p l (at + 2)) (at + 6)) (at + 18)) (at + 22) ≡ stores l at (encode (move_record shift (record_at l at)))
     unfolding moved_at cells_of
-    moved_line e = record_moved (a_place ∷ a_place ∷ a_number ∷ a_number ∷ a_place ∷ a_place ∷ []) (ap (λ (m : ℕ). cells_of (letters_of m)) e)
+    moved_line e = record_moved (a_place ∷ a_place ∷ a_number ∷ a_number ∷ a_place ∷ a_place ∷ []) (ap (λ (m : Mark). cells_of (letters_of m)) e)
 
-    pub others_span : (mark ≡ 0x4c54 → ⊥) → (mark ≡ 0x5354 → ⊥) → (mark ≡ 0x4c49 → ⊥) → Spanned (cells_of (letters_of mark))
+    pub others_span : (mark ≡ M.LT → ⊥) → (mark ≡ M.ST → ⊥) → (mark ≡ M.LI → ⊥) → Spanned (cells_of (letters_of mark))
     unfolding bytes
     others_span lt st li =
-        let w : Stands l at mark = stands o in
+        let w : Stands l at = stands o in
         let m : List ℕ = mark_of (record_at l at) in
-        rw (← w.marked, cells_are m w.ranged.described w.ranged.so) (other_marks m w.ranged.described w.ranged.so (letter_not o refl lt) (letter_not o refl st) (letter_not o refl li))
+        rw (← (marked o), cells_are m w.ranged.described w.ranged.so) (other_marks m w.ranged.described w.ranged.so (letter_not o lt) (letter_not o st) (letter_not o li))
 
-    pub moved_spans : (mark ≡ 0x4c54 → ⊥) → (mark ≡ 0x5354 → ⊥) → (mark ≡ 0x4c49 → ⊥) → move_field q p (move_field q p l (at + 2)) (at + 6) ≡ stores l at (encode (move_record shift (record_at l at)))
+    pub moved_spans : (mark ≡ M.LT → ⊥) → (mark ≡ M.ST → ⊥) → (mark ≡ M.LI → ⊥) → move_field q p (move_field q p l (at + 2)) (at + 6) ≡ stores l at (encode (move_record shift (record_at l at)))
     unfolding moved_at
     moved_spans lt st li =
         let s : Spanned (cells_of (letters_of mark)) = others_span lt st li in
         sym (passed_by s.rest (move_field q p (move_field q p l (at + 2)) (at + 6)) at 10 s.none') ∙ record_moved (a_place ∷ a_place ∷ s.rest) s.so
-
--- A record that stands at a place has its two letters there.
-pub six_there : {l : List ℕ} {at : ℕ} → ((i : ℕ) → get_or l i 0 < 256) → Decodes l at → at < length l → at + 6 ≤ length l
-six_there {l} {at} b d h = room_six (record { octets = b; decodes = d; there = h; letters = letters (get_or l at 0) (get_or l (at + 1) 0) (b at) (b (at + 1)) })
 
 -- TO THE FIRST STATEMENT: at i, what is below and from there on is settled by the records from i on.
 pub record Passes (l : List ℕ) (from a i : ℕ) : Type 0 where
@@ -174,12 +171,12 @@ module _ {l : List ℕ} {from a i : ℕ} (c : Passes l from a i) where
         on = ap decode n ∙ ap some (sym (c.on ∙ ap (records_on a) e));
       }
 
-  module _ {mark : ℕ} (o : Opens l i mark) where
+  module _ {mark : Mark} (o : Opens l i mark) where
     -- the record is the statement
     pub passes_found : true ≡ statement_from a (record_at l i) → First l from a i
     unfolding records_below records_on listing
     passes_found s =
-        let w : Stands l i mark = stands o in
+        let w : Stands l i = stands o in
         let b : records_below a (records_at l i) ≡ [] = ap (records_below a) w.all ∙ rw (sym s) in
         let f : records_on a (records_at l i) ≡ records_at l i = ap (records_on a) w.all ∙ rw (sym s) (sym w.all) in
         record {
@@ -191,7 +188,7 @@ module _ {l : List ℕ} {from a i : ℕ} (c : Passes l from a i) where
     pub passes_again : false ≡ statement_from a (record_at l i) → Passes l from a (i + length (encode (record_at l i)))
     unfolding records_below records_on listing
     passes_again s =
-        let w : Stands l i mark = stands o in
+        let w : Stands l i = stands o in
         let r : Record = record_at l i in
         let n : ℕ = length (encode r) in
         let e : records_at l (i + n) ≡ w.rest = records_are l (i + n) w.behind in
@@ -227,10 +224,10 @@ module _ {q p : ℕ} {l₀ l : List ℕ} {i : ℕ} (c : Moved q p l₀ l i) wher
       let e : records_at l₀ i ≡ [] = records_are l₀ i (ap decode (drop_of_length-le l₀ {i = i} (omega (arith, c.long)))) in
       sym (take_all i l h) ∙ sym (append-nil (take i l)) ∙ ap (λ (rs : List Record). take i l ++ moved_bytes q p rs) (sym e) ∙ c.moved
 
-  pub moved_again : {mark : ℕ} (o : Opens l i mark) {l' : List ℕ} → l' ≡ stores l i (encode (move_record (λ k. k + q - p) (record_at l i))) → Moved q p l₀ l' (i + length (encode (record_at l i)))
+  pub moved_again : {mark : Mark} (o : Opens l i mark) {l' : List ℕ} → l' ≡ stores l i (encode (move_record (λ k. k + q - p) (record_at l i))) → Moved q p l₀ l' (i + length (encode (record_at l i)))
   unfolding moved_bytes listing
   moved_again {mark} o {l'} f =
-      let w : Stands l i mark = stands o in
+      let w : Stands l i = stands o in
       let r : Record = record_at l i in
       let n : ℕ = length (encode r) in
       let E : List ℕ = encode (move_record (λ k. k + q - p) r) in

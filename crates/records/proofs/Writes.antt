@@ -1,14 +1,15 @@
 -- Bytes written one run behind the other.
 -- Assumes nothing.
-use Prim.Native.Nat.{ℕ, suc, ◌+◌, ◌-◌, ◌≤◌, ◌<◌}
-use mathlib.Core.Path.{◌≡◌, refl, sym, ap, ◌∙◌}
-use mathlib.Core.List.{List, [], ◌∷◌, ◌++◌}
+use Prim.Native.Nat.{ℕ, zero, suc, ◌+◌, ◌-◌, ◌≤◌, ◌<◌}
+use mathlib.Core.Path.{◌≡◌, refl, sym, ap, subst, ◌∙◌}
+use mathlib.Core.List.{List, [], ◌∷◌, ◌++◌, append_assoc, append-nil}
 use native.Mathlib.Omega.{arith}
 use native.Mathlib.Nat.{add-zero, add-suc, suc-add, le_refl, le_trans, zero-add}
 use native.Mathlib.Numerals.{add-one}
-use lib.ListN.{length, length-append, set, take, drop, length-drop}
+use lib.ListN.{length, length-append, set, take, drop, get_or, length-drop}
 use lib.Seq.{sets, sets-eq, length-sets, set_comm, take-set-le, take-take, take_all, take-append_seam}
 use Rattle.rules.specs.Calls.{overwrite}
+use Rattle.rules.specs.Records.{field, fields, plain, encode}
 use Rattle.records.specs.Writes.{stores, limit, Wrote}
 
 sets_append : (l : List ℕ) (i : ℕ) (a b : List ℕ) → sets l i (a ++ b) ≡ sets (sets l i a) (i + length a) b
@@ -135,3 +136,25 @@ taken_over l b h = rw (stored_over l b h) (take-append_seam b (drop (length b) l
 -- the part of a slice from a place to its end
 pub rest_of : (l : List ℕ) (a : ℕ) → take (length l - a) (drop a l) ≡ drop a l
 rest_of l a = take_all (length l - a) (drop a l) (omega (arith, length-drop a l))
+
+-- a record's fields, one behind the other
+fields_next : (ns : List ℕ) (i : ℕ) → i < length ns → fields (take (suc i) ns) ≡ fields (take i ns) ++ field (get_or ns i 0)
+unfolding fields
+fields_next [] i h = absurd (omega arith)
+fields_next (n ∷ ns) zero h = append-nil (field n)
+fields_next (n ∷ ns) (suc i) h = ap (λ (b : List ℕ). field n ++ b) (fields_next ns i (omega arith)) ∙ sym (append_assoc (field n) (fields (take i ns)) (field (get_or ns i 0)))
+
+pub fields_start : {at r : ℕ} {m s l l' : List ℕ} (ns : List ℕ) → s ≡ m → Wrote at s l l' r → Wrote at (m ++ fields (take 0 ns)) l l' r
+unfolding fields
+fields_start {at} {r} {m} {l = l} {l'} ns e x = rw (append-nil m, sym e) x
+
+pub fields_turn : {at w r i : ℕ} (m ns : List ℕ) {l l₁ l₂ : List ℕ} → i < length ns → Wrote at (m ++ fields (take i ns)) l l₁ w → Wrote w (field (get_or ns i 0)) l₁ l₂ r
+    → Wrote at (m ++ fields (take (i + 1) ns)) l l₂ r
+fields_turn {at} {w} {r} {i} m ns {l} {l₁} {l₂} h x y =
+    subst (λ (b : List ℕ). Wrote at b l l₂ r)
+    (append_assoc m (fields (take i ns)) (field (get_or ns i 0)) ∙ ap (λ (b : List ℕ). m ++ b) (sym (fields_next ns i h)) ∙ ap (λ (k : ℕ). m ++ fields (take k ns)) (sym (add-one i)))
+    (follows (m ++ fields (take i ns)) (field (get_or ns i 0)) x y)
+
+pub fields_end : {at w i : ℕ} (m ns : List ℕ) {l l₁ : List ℕ} → length ns ≤ i → Wrote at (m ++ fields (take i ns)) l l₁ w → Wrote at (encode (plain m ns)) l l₁ w
+unfolding encode
+fields_end {i = i} m ns h x = rw (take_all i ns h) at x

@@ -1,3 +1,4 @@
 pub mod Writes
 pub mod Marks
 pub mod Moves
+pub mod Writers

@@ -6,6 +6,7 @@ use Rattle.rules.specs.Records.{Record, LT, field, listing, move_record}
 use Rattle.rules.specs.Decode.{decode}
 use Rattle.rules.specs.Patch.{records_below, records_on}
 use Rattle.records.specs.Writes.{stores}
+use Rattle.records.specs.declared.marks.Mark.{Mark}
 use Rattle.records.specs.Marks.{letters_of, field_at}
 
 unfoldable pub records_at : List ℕ → ℕ → List Record
@@ -24,7 +25,7 @@ unfoldable pub record_at : List ℕ → ℕ → Record
 record_at l at = first (records_at l at)
 
 -- A record stands at a place, and opens with a mark.
-pub record Opens (l : List ℕ) (at mark : ℕ) : Type 0 where
+pub record Opens (l : List ℕ) (at : ℕ) (mark : Mark) : Type 0 where
   pub octets : (i : ℕ) → get_or l i 0 < 256
   pub decodes : Decodes l at
   pub there : at < length l

@@ -1,19 +1,24 @@
 // The records of a listing as bytes: a two-letter mark and fields of 4 bytes, low first.
-// A writer writes only where the buffer has room and gives the place behind its record, so an empty buffer measures.
+// A writer writes only where the buffer has room and goes behind its bytes all the same, so an empty buffer measures.
 #![tactic(auto)]
 
 pub mod marks;
 pub mod moves;
 
-ghost use Rattle.std.specs.Prelude.{◌≡◌, [], ◌∷◌, ◌+◌, ◌≤◌};
-ghost use Rattle.rules.specs.Records.{OD, OX, LI, field, fields, encode};
-ghost use Rattle.records.specs.Writes.{limit, Wrote};
+ghost use Rattle.std.specs.Prelude.{◌≡◌, [], ◌∷◌};
+ghost use Rattle.rules.specs.Records.{field, plain, encode};
+ghost use Rattle.records.specs.Marks.{letters_of};
+ghost use Rattle.records.specs.Writes.{Wrote};
+ghost use Rattle.records.specs.Writers.{Puts, Begins, Ends, behind_head, head};
+
+use marks::Mark;
 
 // No place of a listing comes near it, so places can't run over.
 const LIMIT: u32 = 2147483648;
 
-// A byte.
-pub fn put(out: &mut [u8], at: u32, b: u8) -> u32
+// The writer's steps take the place and give it: a method that went from piece to piece by `self.at` would write and read it in memory
+// for each, which was 10 % slower in a whole read.
+fn put(out: &mut [u8], at: u32, b: u8) -> u32
     ensures { Wrote at (b ∷ []) out.old out.new result }
 {
     if LIMIT <= at {
@@ -27,8 +32,7 @@ pub fn put(out: &mut [u8], at: u32, b: u8) -> u32
     at + 1
 }
 
-// Two bytes: a record's mark, or a word of data.
-pub fn put_two(out: &mut [u8], at: u32, m: u8, n: u8) -> u32
+fn put_two(out: &mut [u8], at: u32, m: u8, n: u8) -> u32
     ensures { Wrote at (m ∷ n ∷ []) out.old out.new result }
 {
     if LIMIT <= at {
@@ -60,9 +64,21 @@ fn put_field(out: &mut [u8], at: u32, v: u32) -> u32
     at + 4
 }
 
+fn put_record<const N: usize>(out: &mut [u8], at: u32, mark: Mark, numbers: [u32; N]) -> u32
+    ensures { Wrote at (encode (plain (letters_of mark) numbers.entry)) out.old out.new result }
+{
+    let [m, n] = mark.letters();
+    let mut w = put_two(out, at, m, n);
+    for v in numbers {
+        w = put_field(out, w, v);
+    }
+    w
+}
+
 // The place of LD's bytes, behind the 14 that its record begins with.
-pub fn data_place(at: u32) -> u32
-    ensures { (at ≤ result) × (at + 14 ≤ limit → result ≡ at + 14) }
+#[tactic(auto, unfolding(crate::specs::Writers::behind_head))]
+fn behind_head(at: u32) -> u32
+    ensures { result ≡ behind_head at }
 {
     if LIMIT <= at {
         return at;
@@ -70,72 +86,49 @@ pub fn data_place(at: u32) -> u32
     at + 14
 }
 
-// A record of one field: ST.
-pub fn put_place(out: &mut [u8], at: u32, m: u8, n: u8, place: u32) -> u32
-    ensures { Wrote at (m ∷ n ∷ fields (place ∷ [])) out.old out.new result }
-{
-    let w = put_two(out, at, m, n);
-    put_field(out, w, place)
+// A lent buffer, and the place behind what was written.
+#[derive(Drop)]
+pub struct Writer<'a> {
+    pub out: &'a mut [u8],
+    pub at: u32,
 }
 
-// A record of a span: VL, VI, VS, OI, OF, LL, LC, LT.
-pub fn put_span(out: &mut [u8], at: u32, m: u8, n: u8, from: u32, to: u32) -> u32
-    ensures { Wrote at (m ∷ n ∷ fields (from ∷ to ∷ [])) out.old out.new result }
-{
-    let w = put_place(out, at, m, n, from);
-    put_field(out, w, to)
-}
+impl<'a> Writer<'a> {
+    // A byte of data.
+    pub fn put(&mut self, b: u8)
+        ensures { Puts (b ∷ []) self.old self.new }
+    {
+        self.at = put(self.out, self.at, b);
+    }
 
-// A record of a span and a number: VC, PF, IN, OR, OS, and LD before its bytes.
-pub fn put_record(out: &mut [u8], at: u32, m: u8, n: u8, from: u32, to: u32, v: u32) -> u32
-    ensures { Wrote at (m ∷ n ∷ fields (from ∷ to ∷ v ∷ [])) out.old out.new result }
-{
-    let w = put_span(out, at, m, n, from, to);
-    put_field(out, w, v)
-}
+    // A word of data.
+    pub fn put_two(&mut self, m: u8, n: u8)
+        ensures { Puts (m ∷ n ∷ []) self.old self.new }
+    {
+        self.at = put_two(self.out, self.at, m, n);
+    }
 
-// OD.
-pub fn put_direct(out: &mut [u8], at: u32, from: u32, to: u32, size: u32, segment: u32) -> u32
-    ensures { Wrote at (encode (OD from to size segment)) out.old out.new result }
-{
-    let w = put_record(out, at, b'O', b'D', from, to, size);
-    put_field(out, w, segment)
-}
+    // A record without data.
+    pub fn put_record<const N: usize>(&mut self, mark: Mark, fields: [u32; N])
+        ensures { Puts (encode (plain (letters_of mark) «fields».entry)) self.old self.new }
+    {
+        self.at = put_record(self.out, self.at, mark, fields);
+    }
 
-// OX.
-pub fn put_indirect(
-    out: &mut [u8],
-    at: u32,
-    from: u32,
-    to: u32,
-    encoding: u32,
-    has: u32,
-    size: u32,
-    segment: u32,
-) -> u32
-    ensures { Wrote at (encode (OX from to encoding has size segment)) out.old out.new result }
-{
-    let w = put_record(out, at, b'O', b'X', from, to, encoding);
-    let v = put_field(out, w, has);
-    let u = put_field(out, v, size);
-    put_field(out, u, segment)
-}
+    // LD's bytes come next, from behind the first 14 of its record on; its place is given.
+    pub fn begin_data(&mut self) -> u32
+        ensures { Begins self.old self.new result }
+    {
+        let start = self.at;
+        self.at = behind_head(start);
+        start
+    }
 
-// LI; the second span is that of the operands.
-pub fn put_instruction(
-    out: &mut [u8],
-    at: u32,
-    from: u32,
-    to: u32,
-    operation: u32,
-    count: u32,
-    first: u32,
-    last: u32,
-) -> u32
-    ensures { Wrote at (encode (LI from to operation count first last)) out.old out.new result }
-{
-    let w = put_record(out, at, b'L', b'I', from, to, operation);
-    let v = put_field(out, w, count);
-    let u = put_field(out, v, first);
-    put_field(out, u, last)
+    // LD's bytes are put: the first 14 of its record, which count them, are written at its place.
+    pub fn end_data(&mut self, start: u32, from: u32, to: u32)
+        ensures { Ends start from to self.old self.new }
+    {
+        let count = self.at.saturating_sub(behind_head(start));
+        put_record(self.out, start, Mark::LD, [from, to, count]);
+    }
 }

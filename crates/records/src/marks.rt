@@ -1,108 +1,93 @@
 // The marks that records open with, how many fields a record has, and what a field says.
 ghost use Rattle.std.specs.Prelude.{◌≡◌, [], ◌∷◌, ◌+◌, ◌*◌, ◌≤◌, ◌<◌, length};
-ghost use Rattle.records.specs.Marks.{letters_of, is_known, count_of, field_at};
+ghost use Rattle.records.specs.Marks.{letters_of, count_of, Marked, field_at};
 
-// Two letters as a number.
-pub const ST: usize = 0x5354;
+// A mark is its two letters as a number.
+#[derive(Clone, Copy, PartialEq, Eq)]
+pub enum Mark {
+    ST = 0x5354,
+    VC = 0x5643,
+    VL = 0x564c,
+    VI = 0x5649,
+    VS = 0x5653,
+    PF = 0x5046,
+    IN = 0x494e,
+    OR = 0x4f52,
+    OS = 0x4f53,
+    OI = 0x4f49,
+    OF = 0x4f46,
+    OD = 0x4f44,
+    OX = 0x4f58,
+    LL = 0x4c4c,
+    LI = 0x4c49,
+    LD = 0x4c44,
+    LC = 0x4c43,
+    LT = 0x4c54,
+}
 
-pub const VC: usize = 0x5643;
-
-pub const VL: usize = 0x564c;
-
-pub const VI: usize = 0x5649;
-
-pub const VS: usize = 0x5653;
-
-pub const PF: usize = 0x5046;
-
-pub const IN: usize = 0x494e;
-
-pub const OR: usize = 0x4f52;
-
-pub const OS: usize = 0x4f53;
-
-pub const OI: usize = 0x4f49;
-
-pub const OF: usize = 0x4f46;
-
-pub const OD: usize = 0x4f44;
-
-pub const OX: usize = 0x4f58;
-
-pub const LL: usize = 0x4c4c;
-
-pub const LI: usize = 0x4c49;
-
-pub const LD: usize = 0x4c44;
-
-pub const LC: usize = 0x4c43;
-
-pub const LT: usize = 0x4c54;
-
-// Whether a record has this mark.
-pub fn known(mark: usize) -> bool
-    ensures { result ≡ is_known (letters_of mark) }
-{
-    match mark {
-        ST => true,
-        VC => true,
-        VL => true,
-        VI => true,
-        VS => true,
-        PF => true,
-        IN => true,
-        OR => true,
-        OS => true,
-        OI => true,
-        OF => true,
-        OD => true,
-        OX => true,
-        LL => true,
-        LI => true,
-        LD => true,
-        LC => true,
-        LT => true,
-        _ => false,
+impl Mark {
+    // The mark of two letters, if a record has it. Always inline: a call took a third of the check's time, and inline no answer is made, since
+    // each arm goes on to the caller's.
+    #[tactic(auto, unfolding(crate::specs::Marks::is_known, lexer::specs::Text::bytes))]
+    #[inline(always)]
+    pub fn of(a: u8, b: u8) -> Option<Mark>
+        ensures { Marked (a ∷ b ∷ []) result }
+    {
+        match (a, b) {
+            (b'S', b'T') => Some(Mark::ST),
+            (b'V', b'C') => Some(Mark::VC),
+            (b'V', b'L') => Some(Mark::VL),
+            (b'V', b'I') => Some(Mark::VI),
+            (b'V', b'S') => Some(Mark::VS),
+            (b'P', b'F') => Some(Mark::PF),
+            (b'I', b'N') => Some(Mark::IN),
+            (b'O', b'R') => Some(Mark::OR),
+            (b'O', b'S') => Some(Mark::OS),
+            (b'O', b'I') => Some(Mark::OI),
+            (b'O', b'F') => Some(Mark::OF),
+            (b'O', b'D') => Some(Mark::OD),
+            (b'O', b'X') => Some(Mark::OX),
+            (b'L', b'L') => Some(Mark::LL),
+            (b'L', b'I') => Some(Mark::LI),
+            (b'L', b'D') => Some(Mark::LD),
+            (b'L', b'C') => Some(Mark::LC),
+            (b'L', b'T') => Some(Mark::LT),
+            _ => None,
+        }
     }
-}
 
-// How many fields a record with this mark has, LD's count among them.
-pub fn fields(mark: usize) -> usize
-    ensures { (result ≡ count_of (letters_of mark)) × (result < 7) }
-{
-    match mark {
-        ST => 1,
-        VC => 3,
-        PF => 3,
-        IN => 3,
-        OR => 3,
-        OS => 3,
-        OD => 4,
-        OX => 6,
-        LI => 6,
-        LD => 3,
-        _ => 2,
+    // Its two letters.
+    #[tactic(auto, unfolding(lexer::specs::Text::bytes))]
+    #[inline]
+    pub fn letters(self) -> [u8; 2]
+        ensures { result ≡ letters_of self }
+    {
+        (self as u16).to_be_bytes()
     }
-}
 
-// Two letters as a mark.
-pub fn marked(a: u8, b: u8) -> usize
-    ensures { letters_of result ≡ a ∷ b ∷ [] }
-{
-    256 * (a as usize) + b as usize
-}
-
-// Four bytes as a number, low first.
-pub fn joined(a: u8, b: u8, c: u8, d: u8) -> usize
-    ensures { (result ≡ a + 256 * (b + 256 * (c + 256 * d))) × (result < 4294967296) }
-{
-    a as usize + 256 * (b as usize + 256 * (c as usize + 256 * (d as usize)))
+    // How many fields a record with this mark has, LD's count among them.
+    #[tactic(auto, unfolding(crate::specs::Marks::count_of, lexer::specs::Text::bytes))]
+    #[inline]
+    pub fn fields(self) -> usize
+        ensures { (result ≡ count_of (letters_of self)) × (result < 7) }
+    {
+        match self {
+            Mark::ST => 1,
+            Mark::VL | Mark::VI | Mark::VS | Mark::OI | Mark::OF | Mark::LL | Mark::LC | Mark::LT =>
+                2,
+            Mark::VC | Mark::PF | Mark::IN | Mark::OR | Mark::OS | Mark::LD => 3,
+            Mark::OD => 4,
+            Mark::OX | Mark::LI => 6,
+        }
+    }
 }
 
 // The field at a place.
+#[tactic(auto, using(crate::proofs::Fields::field_joined))]
+#[inline]
 pub fn field_at(s: &[u8], at: usize) -> usize
     requires { at + 4 ≤ length s.now }
     ensures { (result ≡ field_at s.now at) × (result < 4294967296) }
 {
-    joined(s[at], s[at + 1], s[at + 2], s[at + 3])
+    u32::from_le_bytes([s[at], s[at + 1], s[at + 2], s[at + 3]]) as usize
 }

@@ -10,50 +10,20 @@
 // status 1.
 #![tactic(auto)]
 
-ghost use Rattle.std.specs.Prelude.{◌≤◌, ◌<◌, length, IfOk};
+ghost use Rattle.std.specs.Prelude.{◌≤◌, ◌<◌, length};
 
+use input::read_input;
 use std::io;
-use std::io::Read;
-
-// Reads until the input ends or the buffer is full, and gives how many bytes it read.
-fn read_input<R: Read>(from: &mut R, input: &mut [u8]) -> io::Result<usize>
-    ensures { IfOk result (λ n. n ≤ length input.new) }
-{
-    let mut n: usize = 0;
-    while n < input.len() {
-        let more = from.read(&mut input[n..])?;
-        if more == 0 {
-            return Ok(n);
-        }
-        n += more;
-    }
-    Ok(n)
-}
-
-// A byte of a source, and the place behind it in the line.
-#[derive(Drop)]
-struct Step {
-    byte: u8,
-    end: usize,
-}
 
 // The value of a digit; of a byte that is none, 0.
-fn digit(b: u8) -> usize
+fn digit(b: u8) -> u8
     ensures { result < 16 }
 {
     match b {
-        b'0'..=b'9' => (b - b'0') as usize,
-        b'a'..=b'f' => (b - b'a') as usize + 10,
+        b'0'..=b'9' => b - b'0',
+        b'a'..=b'f' => b - b'a' + 10,
         _ => 0,
     }
-}
-
-// The byte at a place of a line; beyond its end, 0.
-fn byte_at(line: &[u8], at: usize) -> u8 {
-    if at < line.len() {
-        return line[at];
-    }
-    0
 }
 
 // The byte that a letter behind a backslash stands for.
@@ -66,45 +36,28 @@ fn meant(letter: u8) -> u8 {
     }
 }
 
-// The byte that is spelled at a place of a line.
-fn spelled(line: &[u8], at: usize) -> Step
-    requires { at < length line.now }
-    ensures { at < result.end }
-{
-    let b = line[at];
-    if b != b'\\' {
-        return Step {
-            byte: b,
-            end: at + 1,
-        };
-    }
-    let letter = byte_at(line, at + 1);
-    if letter == b'x' {
-        let high = digit(byte_at(line, at + 2));
-        let low = digit(byte_at(line, at + 3));
-        return Step {
-            byte: (16 * high + low) as u8,
-            end: at + 4,
-        };
-    }
-    Step {
-        byte: meant(letter),
-        end: at + 2,
+// The byte that a line's head spells, and the rest of the line. What is missing at the line's end counts as 0.
+fn spelled(line: &[u8]) -> Option<(u8, &[u8])> {
+    match line {
+        [] => None,
+        [b'\\'] | [b'\\', b'x'] => Some((0, &[])),
+        [b'\\', b'x', high] => Some((16 * digit(*high), &[])),
+        [b'\\', b'x', high, low, rest @ ..] => Some((16 * digit(*high) + digit(*low), rest)),
+        [b'\\', letter, rest @ ..] => Some((meant(*letter), rest)),
+        [b, rest @ ..] => Some((*b, rest)),
     }
 }
 
-// The number in a line from a place on, up to its first five digits.
-fn number(line: &[u8], from: usize) -> usize {
-    let mut value: usize = 0;
-    let mut at = from;
-    while at < line.len() {
-        if value >= 10000 {
-            return value;
-        }
-        value = 10 * value + digit(line[at]);
-        at += 1;
-    }
-    value
+// The number at a line's head, up to its first five digits.
+fn number(line: &[u8]) -> usize {
+    line.iter().fold(
+        0,
+        |value, b| if value < 10000 {
+            10 * value + usize::from(digit(*b))
+        } else {
+            value
+        },
+    )
 }
 
 // Goes on with the first n bytes, again and again, up to so many; gives how many there are then.
@@ -112,93 +65,46 @@ fn repeated(source: &mut [u8], n: usize, most: usize) -> usize
     requires { n ≤ length source.old }
     ensures { result ≤ length source.new }
 {
-    let mut to = n;
-    while to < source.len() {
-        if to >= most {
-            return to;
-        }
+    let end = most.min(source.len()).max(n);
+    for to in n..end {
         source[to] = source[to - n];
-        to += 1;
     }
-    to
+    end
 }
 
 // Puts down the source that a line spells; gives its length.
 fn unescape(line: &[u8], source: &mut [u8]) -> usize
     ensures { result ≤ length source.new }
 {
-    let mut at: usize = 0;
-    let mut n: usize = 0;
-    while at < line.len() {
-        if n >= source.len() {
+    let mut rest = line;
+    for n in 0..source.len() {
+        if let [b'\\', b'.', count @ ..] = rest {
+            return repeated(source, n, number(count.get(1..).unwrap_or_default()));
+        }
+        let Some((byte, behind)) = spelled(rest) else {
             return n;
-        }
-        if line[at] == b'\\' && byte_at(line, at + 1) == b'.' {
-            return repeated(source, n, number(line, at + 3));
-        }
-        let next = spelled(line, at);
-        source[n] = next.byte;
-        n += 1;
-        at = next.end;
+        };
+        source[n] = byte;
+        rest = behind;
     }
-    n
+    source.len()
 }
 
-// One line: the line itself, and the answer.
-fn one(
-    rt: &impl Print,
-    line: &[u8],
-    source: &mut [u8],
-    listing: &mut [u8],
-    text: &mut [u8],
-) -> io::Result<()> {
-    let n = unescape(line, source);
-    let length = printing::answer_text(&source[0..n], listing, text);
-    rt.write_all(b"> ")?;
-    rt.write_all(line)?;
-    rt.write_all(b"\n")?;
-    rt.write_all(&text[..length])
-}
-
-// Where the line that begins at a place ends: at its line feed.
-fn line_end(input: &[u8], from: usize) -> usize
-    requires { from < length input.now }
-    ensures lower_bound { from ≤ result }
-    ensures upper_bound { result ≤ length input.now }
-{
-    let mut at = from;
-    while at < input.len() && input[at] != b'\n' {
-        at += 1;
-    }
-    at
-}
-
-// Each line in turn.
-fn all(
-    rt: &impl Print,
-    input: &[u8],
-    source: &mut [u8],
-    listing: &mut [u8],
-    text: &mut [u8],
-) -> io::Result<()> {
-    let mut from: usize = 0;
-    while from < input.len() {
-        let to = line_end(input, from);
-        one(rt, &input[from..to], source, listing, text)?;
-        if to == input.len() {
-            return Ok(());
-        }
-        from = to + 1;
-    }
-    Ok(())
-}
-
-// The buffer is twice as long as what is recorded; what it doesn't hold is not read.
+// Each line in turn: the line itself, and the answer. The buffer is twice as long as what is recorded; what it doesn't hold is not read.
 fn main(rt: HostRuntime) -> io::Result<()> {
     let mut input = [0u8; 131072];
     let mut source = [0u8; 65537];
     let mut listing = [0u8; 65536];
     let mut text = [0u8; 393325];
     let n = read_input(&mut rt.stdin(), &mut input)?;
-    all(&rt, &input[..n], &mut source, &mut listing, &mut text)
+    for line in input[..n].split_inclusive(|b| *b == b'\n') {
+        let line = line.strip_suffix(b"\n").unwrap_or(line);
+        let long = unescape(line, &mut source);
+        let length = printing::answer_text(&source[..long], &mut listing, &mut text);
+        rt.write_all(b"> ")?;
+        rt.write_all(line)?;
+        rt.write_all(b"\n")?;
+        rt.write_all(&text[..length])?;
+    }
+    Ok(())
 }

@@ -6,8 +6,7 @@ use Prim.Native.Char.{Char}
 use Rattle.lexer.specs.Text.{maybe, is}
 use Rattle.rules.specs.Lexemes.{Kind, word, number, quoted, mark, newline, blank, comment, invalid, end, bad, Lexeme, open_lexemes}
 use Rattle.rules.specs.Records.{Record}
-use Rattle.refusals.specs.declared.Refusal.{Refusal}
-use Rattle.refusals.specs.Refusals.{spanned}
+use Rattle.refusals.specs.Refusals.{Numbers, spanned}
 
 -- Why is refused: a number with the span; with none (0..0); 25, with the span and two registers.
 pub data Cause : Type 0 where
@@ -16,7 +15,7 @@ pub data Cause : Type 0 where
   encoding : (f t first second : ℕ) → Cause
 
 -- Its five values. Only 25 has registers.
-abbrev pub numbers_of : Cause → Refusal
+abbrev pub numbers_of : Cause → Numbers
 numbers_of (at n f t) = spanned n f t
 numbers_of (nowhere n) = spanned n 0 0
 numbers_of (encoding f t a b) = record { number = 25; from = f; to = t; first = a; second = b }

@@ -8,15 +8,14 @@ use lib.ListN.{length}
 use Rattle.rules.specs.Records.{Record, encode, listing}
 use Rattle.rules.specs.Reader.{Answer, done, refused, Reader, Line, after, thence, ◌>>=◌, return, write, refuse, or_back, attempt, ahead, kind, passed, left, refuse_here, Cause, at as at_span, numbers_of}
 use Rattle.rules.specs.Statements.{over, in_line}
-use Rattle.records.specs.Writes.{Wrote}
+use Rattle.std.specs.Prelude.{Result, Ok, Err}
+use Rattle.records.specs.declared.Writer.{Writer}
+use Rattle.records.specs.Writers.{Puts}
 use Rattle.records.proofs.Writes.{follows, nothing}
 use Rattle.state.specs.declared.Parser.{Parser}
 use Rattle.refusals.specs.declared.Refusal.{Refusal}
-use Rattle.state.specs.declared.Step.{Step}
-use Rattle.state.specs.declared.Step.TheVariants.{Ahead, Stopped}
-use Rattle.state.specs.declared.Parsed.{Parsed}
-use Rattle.state.specs.declared.Parsed.TheVariants.{Done, Refused}
-use Rattle.state.specs.Views.{Comes, Denies, Gives, Kept, Level, On, Passes, PassesAs, Reads, ReadsAs, here_of, line, line_of, rows_of, view, whole}
+use Rattle.refusals.specs.Refusals.{numbers}
+use Rattle.state.specs.Views.{Comes, Denies, Gives, Kept, Level, Looks, On, Passes, PassesAs, Reads, ReadsAs, ReadsWith, here_of, line, line_of, rows_of, view, whole}
 
 after_after : {S A : Type 0} (a b : List Record) (o : Answer S A) → after a (after b o) ≡ after (a ++ b) o
 unfolding after
@@ -34,12 +33,12 @@ listing_append [] b = refl
 listing_append (r ∷ a) b = ap (λ (l : List ℕ). encode r ++ l) (listing_append a b) ∙ sym (append_assoc (encode r) (listing a) (listing b))
 
 -- records written behind others
-then_records : {i w r : ℕ} (a b : List Record) {l l₁ l₂ : List ℕ} → Wrote i (listing a) l l₁ w → Wrote w (listing b) l₁ l₂ r → Wrote i (listing (a ++ b)) l l₂ r
-then_records a b x y = rw (listing_append a b) (follows (listing a) (listing b) x y)
+then_records : (a b : List Record) {o n w : Writer} → Puts (listing a) o n → Puts (listing b) n w → Puts (listing (a ++ b)) o w
+then_records a b x y = record { wrote = rw (listing_append a b) (follows (listing a) (listing b) x.wrote y.wrote); buffer = y.buffer ∙ x.buffer }
 
-no_records : (i : ℕ) (l : List ℕ) → Wrote i (listing []) l l i
+no_records : (o : Writer) → Puts (listing []) o o
 unfolding listing
-no_records i l = nothing i l
+no_records o = record { wrote = nothing o.at o.out.now; buffer = refl }
 
 kept_here : (L : Level) (s : List ℕ) (p : Parser) → Kept L s p p
 kept_here line s p = refl
@@ -49,70 +48,83 @@ kept_on : (L : Level) (s : List ℕ) (p q r : Parser) → Kept L s p q → Kept 
 kept_on line s p q r h k = k ∙ h
 kept_on whole s p q r h k = tt
 
--- The reader m, begun at p with the place i and the buffer l, has come to q, w and l₁, and m₁ is still to be read there.
-pub record Sofar (L : Level) (s : List ℕ) (p : Parser) {A : Type 0} (m : Reader (On L) A) (i : ℕ) (l : List ℕ) (q : Parser) (m₁ : Reader (On L) A) (w : ℕ) (l₁ : List ℕ) : Type 0 where
+-- The reader m, begun at p with the writer o, has come to q and n, and m₁ is still to be read there.
+pub record Sofar (L : Level) (s : List ℕ) (p : Parser) {A : Type 0} (m : Reader (On L) A) (o : Writer) (q : Parser) (m₁ : Reader (On L) A) (n : Writer) : Type 0 where
   pub v : List Record
   pub reads : m (view L s p) ≡ after v (m₁ (view L s q))
   pub kept : Kept L s p q
-  pub wrote : Wrote i (listing v) l l₁ w
+  pub puts : Puts (listing v) o n
 
 -- nothing is read yet
-pub starts : (L : Level) (s : List ℕ) (p : Parser) {A : Type 0} (m : Reader (On L) A) (i : ℕ) (l : List ℕ) → Sofar L s p m i l p m i l
-starts L s p m i l = record { v = []; reads = sym (after_nil (m (view L s p))); kept = kept_here L s p; wrote = no_records i l }
+pub starts : (L : Level) (s : List ℕ) (p : Parser) {A : Type 0} (m : Reader (On L) A) (o : Writer) → Sofar L s p m o p m o
+starts L s p m o = record { v = []; reads = sym (after_nil (m (view L s p))); kept = kept_here L s p; puts = no_records o }
 
 -- what writes nothing writes no record
-pub still : {L : Level} {s : List ℕ} {p q : Parser} {A : Type 0} {m : Reader (On L) A} {a : A} (i : ℕ) (l : List ℕ) → Comes L s p m q a → Gives L s p m i l l q i a
-still i l h = record { v = []; reads = h.reads; kept = h.kept; wrote = no_records i l }
+pub still : {L : Level} {s : List ℕ} {p q : Parser} {A : Type 0} {m : Reader (On L) A} {a : A} (o : Writer) → Comes L s p m q a → Gives L s p m o o q a
+still o h = record { v = []; reads = h.reads; kept = h.kept; puts = no_records o }
 
-module _ {L : Level} {s : List ℕ} {p q : Parser} {A : Type 0} {m : Reader (On L) A} {i w : ℕ} {l l₁ : List ℕ} where
-  module _ {m₁ : Reader (On L) A} (so : Sofar L s p m i l q m₁ w l₁) where
+module _ {L : Level} {s : List ℕ} {p q : Parser} {A : Type 0} {m : Reader (On L) A} {o n : Writer} where
+  module _ {m₁ : Reader (On L) A} (so : Sofar L s p m o q m₁ n) where
     -- the reader is m₂ here
-    pub becomes : {m₂ : Reader (On L) A} → m₁ (view L s q) ≡ m₂ (view L s q) → Sofar L s p m i l q m₂ w l₁
-    becomes e = record { v = so.v; reads = so.reads ∙ ap (after so.v) e; kept = so.kept; wrote = so.wrote }
+    pub becomes : {m₂ : Reader (On L) A} → m₁ (view L s q) ≡ m₂ (view L s q) → Sofar L s p m o q m₂ n
+    becomes e = record { v = so.v; reads = so.reads ∙ ap (after so.v) e; kept = so.kept; puts = so.puts }
 
     -- what is left is read
-    pub ends : {l₂ : List ℕ} {q₂ : Parser} {w₂ : ℕ} {a : A} → Gives L s q m₁ w l₁ l₂ q₂ w₂ a → Gives L s p m i l l₂ q₂ w₂ a
+    pub ends : {w : Writer} {q₂ : Parser} {a : A} → Gives L s q m₁ n w q₂ a → Gives L s p m o w q₂ a
     unfolding after
-    ends {l₂} {q₂} {w₂} on = record { v = so.v ++ on.v; reads = so.reads ∙ ap (after so.v) on.reads; kept = kept_on L s p q q₂ so.kept on.kept; wrote = then_records so.v on.v so.wrote on.wrote }
+    ends {w} {q₂} on = record { v = so.v ++ on.v; reads = so.reads ∙ ap (after so.v) on.reads; kept = kept_on L s p q q₂ so.kept on.kept; puts = then_records so.v on.v so.puts on.puts }
 
     pub denied : {r : Refusal} → Denies L s q m₁ r → Denies L s p m r
     unfolding after
-    denied on = record { cause = on.cause; reads = so.reads ∙ ap (after so.v) on.reads; numbers = on.numbers }
+    denied on = record { cause = on.cause; reads = so.reads ∙ ap (after so.v) on.reads; by_numbers = on.by_numbers }
 
     -- and it writes nothing
-    pub lands : {q₂ : Parser} {a : A} → Comes L s q m₁ q₂ a → Gives L s p m i l l₁ q₂ w a
-    lands h = ends (still w l₁ h)
+    pub lands : {q₂ : Parser} {a : A} → Comes L s q m₁ q₂ a → Gives L s p m o n q₂ a
+    lands h = ends (still n h)
 
   -- the next thing to read is m₁
-  module _ {B : Type 0} (m₁ : Reader (On L) B) (k : B → Reader (On L) A) (so : Sofar L s p m i l q (m₁ >>= k) w l₁) where
-    pub called : {l₂ : List ℕ} {q₂ : Parser} {w₂ : ℕ} {b : B} → Gives L s q m₁ w l₁ l₂ q₂ w₂ b → Sofar L s p m i l q₂ (k b) w₂ l₂
+  module _ {B : Type 0} (m₁ : Reader (On L) B) (k : B → Reader (On L) A) (so : Sofar L s p m o q (m₁ >>= k) n) where
+    pub called : {w : Writer} {q₂ : Parser} {b : B} → Gives L s q m₁ n w q₂ b → Sofar L s p m o q₂ (k b) w
     unfolding ◌>>=◌ thence
-    called {l₂} {q₂} {w₂} {b} on = record {
+    called {w} {q₂} {b} on = record {
       v = so.v ++ on.v;
-      reads = so.reads ∙ ap (λ (o : Answer (On L) B). after so.v (thence o k)) on.reads ∙ after_after so.v on.v (k b (view L s q₂));
+      reads = so.reads ∙ ap (λ (z : Answer (On L) B). after so.v (thence z k)) on.reads ∙ after_after so.v on.v (k b (view L s q₂));
       kept = kept_on L s p q q₂ so.kept on.kept;
-      wrote = then_records so.v on.v so.wrote on.wrote;
+      puts = then_records so.v on.v so.puts on.puts;
     }
 
     pub called_denied : {r : Refusal} → Denies L s q m₁ r → Denies L s p m r
     unfolding ◌>>=◌ thence
-    called_denied on = denied so (record { cause = on.cause; reads = ap (λ (o : Answer (On L) B). thence o k) on.reads; numbers = on.numbers })
+    called_denied on = denied so (record { cause = on.cause; reads = ap (λ (o : Answer (On L) B). thence o k) on.reads; by_numbers = on.by_numbers })
 
-    pub comes : {q₂ : Parser} {b : B} → Comes L s q m₁ q₂ b → Sofar L s p m i l q₂ (k b) w l₁
-    comes h = called (still w l₁ h)
+    pub comes : {q₂ : Parser} {b : B} → Comes L s q m₁ q₂ b → Sofar L s p m o q₂ (k b) n
+    comes h = called (still n h)
 
 -- the answers of the code
-module _ {L : Level} {s : List ℕ} {p : Parser} {m : Reader (On L) (Unit {0})} {i : ℕ} {l l' : List ℕ} where
-  pub reads_done : {q : Parser} {w : ℕ} → Gives L s p m i l l' q w tt → Reads L s p m i l l' (Done q w)
+module _ {L : Level} {s : List ℕ} {p : Parser} {m : Reader (On L) (Unit {0})} {o n : Writer} where
+  pub reads_done : {q : Parser} → Gives L s p m o n q tt → Reads L s p m o n (Ok q)
   reads_done h = record { so = h }
 
-  pub reads_refused : {r : Refusal} → Denies L s p m r → Reads L s p m i l l' (Refused r)
+  pub reads_refused : {r : Refusal} → Denies L s p m r → Reads L s p m o n (Err r)
   reads_refused h = record { so = h }
 
+module _ {L : Level} {s : List ℕ} {p : Parser} {A B : Type 0} {seen : B → A} {m : Reader (On L) A} where
+  pub reads_with : {o n : Writer} {q : Parser} {b : B} → Gives L s p m o n q (seen b) → ReadsWith L s p seen m o n (Ok (q, b))
+  reads_with h = record { so = h }
+
+  pub reads_denied : {o n : Writer} {r : Refusal} → Denies L s p m r → ReadsWith L s p seen m o n (Err r)
+  reads_denied h = record { so = h }
+
+  pub looks_comes : {q : Parser} {b : B} → Comes L s p m q (seen b) → Looks L s p seen m (Ok (q, b))
+  looks_comes h = record { so = h }
+
+  pub looks_denied : {r : Refusal} → Denies L s p m r → Looks L s p seen m (Err r)
+  looks_denied h = record { so = h }
+
 -- a record is written
-pub writes : {L : Level} {s : List ℕ} {p : Parser} {i w : ℕ} {l l₁ : List ℕ} (r : Record) → Wrote i (encode r) l l₁ w → Gives L s p (write r) i l l₁ p w tt
+pub writes : {L : Level} {s : List ℕ} {p : Parser} {o n : Writer} (r : Record) → Puts (encode r) o n → Gives L s p (write r) o n p tt
 unfolding write listing
-writes {L} {s} {p} r h = record { v = r ∷ []; reads = refl; kept = kept_here L s p; wrote = rw (append-nil (encode r)) h }
+writes {L} {s} {p} r h = record { v = r ∷ []; reads = refl; kept = kept_here L s p; puts = rw (append-nil (encode r)) h }
 
 -- nothing more is read
 pub returns : {L : Level} {s : List ℕ} {p : Parser} {A : Type 0} (a : A) → Comes L s p (return a) p a
@@ -120,13 +132,13 @@ unfolding return
 returns {L} {s} {p} a = record { reads = refl; kept = kept_here L s p }
 
 -- refusals: with a cause, and on the token ahead
-pub refuses : {L : Level} {s : List ℕ} {p : Parser} {A : Type 0} {r : Refusal} (c : Cause) → r ≡ numbers_of c → Denies L s p {A = A} (refuse c) r
+pub refuses : {L : Level} {s : List ℕ} {p : Parser} {A : Type 0} {r : Refusal} (c : Cause) → numbers r ≡ numbers_of c → Denies L s p {A = A} (refuse c) r
 unfolding refuse
-refuses c e = record { cause = c; reads = refl; numbers = e }
+refuses c e = record { cause = c; reads = refl; by_numbers = e }
 
-pub refuses_here : {s : List ℕ} {p : Parser} {A : Type 0} {r : Refusal} (n : ℕ) → r ≡ numbers_of (at_span n p.token_start p.pos) → Denies line s p {A = A} (refuse_here n) r
+pub refuses_here : {s : List ℕ} {p : Parser} {A : Type 0} {r : Refusal} (n : ℕ) → numbers r ≡ numbers_of (at_span n p.token_start p.pos) → Denies line s p {A = A} (refuse_here n) r
 unfolding refuse_here
-refuses_here {p = p} n e = record { cause = at_span n p.token_start p.pos; reads = refl; numbers = e }
+refuses_here {p = p} n e = record { cause = at_span n p.token_start p.pos; reads = refl; by_numbers = e }
 
 -- questions to the line
 module _ {s : List ℕ} {p : Parser} where
@@ -148,9 +160,9 @@ module _ {s : List ℕ} {p : Parser} where
 
 -- what reads in a line, in the state
 module _ {s : List ℕ} {p : Parser} {A : Type 0} {m : Reader Line A} where
-  pub lifts : {i w : ℕ} {l l' : List ℕ} {q : Parser} {a : A} → Gives line s p m i l l' q w a → Gives whole s p (in_line m) i l l' q w a
+  pub lifts : {o n : Writer} {q : Parser} {a : A} → Gives line s p m o n q a → Gives whole s p (in_line m) o n q a
   unfolding in_line over
-  lifts h = record { v = h.v; reads = ap (over (rows_of s p)) h.reads ∙ rw h.kept; kept = tt; wrote = h.wrote }
+  lifts h = record { v = h.v; reads = ap (over (rows_of s p)) h.reads ∙ rw h.kept; kept = tt; puts = h.puts }
 
   pub lifts_comes : {q : Parser} {a : A} → Comes line s p m q a → Comes whole s p (in_line m) q a
   unfolding in_line over
@@ -158,16 +170,16 @@ module _ {s : List ℕ} {p : Parser} {A : Type 0} {m : Reader Line A} where
 
   pub lifts_denied : {r : Refusal} → Denies line s p m r → Denies whole s p (in_line m) r
   unfolding in_line over
-  lifts_denied h = record { cause = h.cause; reads = ap (over (rows_of s p)) h.reads; numbers = h.numbers }
+  lifts_denied h = record { cause = h.cause; reads = ap (over (rows_of s p)) h.reads; by_numbers = h.by_numbers }
 
 -- what is left is another function's
-pub hands_on : {L : Level} {s : List ℕ} {p q : Parser} {m m₁ : Reader (On L) (Unit {0})} {i w : ℕ} {l l₁ l₂ : List ℕ} {r : Parsed}
-    → Sofar L s p m i l q m₁ w l₁ → Reads L s q m₁ w l₁ l₂ r → Reads L s p m i l l₂ r
-hands_on {L} {s} {p} {q} {m} {m₁} {i} {w} {l} {l₁} {l₂} {r} so h = record { so = go r h.so }
+pub hands_on : {L : Level} {s : List ℕ} {p q : Parser} {m m₁ : Reader (On L) (Unit {0})} {o n w : Writer} {r : Result Parser Refusal}
+    → Sofar L s p m o q m₁ n → Reads L s q m₁ n w r → Reads L s p m o w r
+hands_on {L} {s} {p} {q} {m} {m₁} {o} {n} {w} {r} so h = record { so = go r h.so }
   where
-    go : (r : Parsed) → ReadsAs L s q m₁ w l₁ l₂ r → ReadsAs L s p m i l l₂ r
-    go (Done q₂ w₂) k = ends so k
-    go (Refused x) k = denied so k
+    go : (r : Result Parser Refusal) → ReadsAs L s q m₁ n w r → ReadsAs L s p m o w r
+    go (Ok q₂) k = ends so k
+    go (Err x) k = denied so k
 
 -- readers that write nothing, one after the other
 module _ {L : Level} {s : List ℕ} {p q : Parser} {A B : Type 0} {m : Reader (On L) B} (k : B → Reader (On L) A) {b : B} (h : Comes L s p m q b) where
@@ -177,10 +189,11 @@ module _ {L : Level} {s : List ℕ} {p q : Parser} {A B : Type 0} {m : Reader (O
 
   pub then_denied : {r : Refusal} → Denies L s q (k b) r → Denies L s p (m >>= k) r
   unfolding ◌>>=◌ thence
-  then_denied g = record { cause = g.cause; reads = ap (λ (o : Answer (On L) B). thence o k) h.reads ∙ after_nil _ ∙ g.reads; numbers = g.numbers }
+  then_denied g = record { cause = g.cause; reads = ap (λ (o : Answer (On L) B). thence o k) h.reads ∙ after_nil _ ∙ g.reads; by_numbers = g.by_numbers }
 
 pub first_denied : {L : Level} {s : List ℕ} {p : Parser} {A B : Type 0} {m : Reader (On L) B} (k : B → Reader (On L) A) {r : Refusal} → Denies L s p m r → Denies L s p (m >>= k) r
-first_denied {L} {s} {p} {m = m} k h = called_denied m k (starts L s p (m >>= k) 0 []) h
+unfolding ◌>>=◌ thence
+first_denied {L} {s} {p} {A} {B} k h = record { cause = h.cause; reads = ap (λ (z : Answer (On L) B). thence z k) h.reads; by_numbers = h.by_numbers }
 
 -- a reader that may find nothing, and goes back then
 module _ {L : Level} {s : List ℕ} {p : Parser} {A : Type 0} {m : Reader (On L) (Option A)} (a : A) where
@@ -194,23 +207,23 @@ module _ {L : Level} {s : List ℕ} {p : Parser} {A : Type 0} {m : Reader (On L)
 
   pub attempt_denied : {r : Refusal} → Denies L s p m r → Denies L s p (attempt m a) r
   unfolding attempt or_back
-  attempt_denied h = record { cause = h.cause; reads = ap (λ (o : Answer (On L) (Option A)). or_back o a (view L s p)) h.reads; numbers = h.numbers }
+  attempt_denied h = record { cause = h.cause; reads = ap (λ (o : Answer (On L) (Option A)). or_back o a (view L s p)) h.reads; by_numbers = h.by_numbers }
 
 -- what a reader does where another does the same
 module _ {L : Level} {s : List ℕ} {p : Parser} {m m₁ : Reader (On L) (Unit {0})} (e : m (view L s p) ≡ m₁ (view L s p)) where
   denied_by : {r : Refusal} → Denies L s p m₁ r → Denies L s p m r
-  denied_by h = record { cause = h.cause; reads = e ∙ h.reads; numbers = h.numbers }
+  denied_by h = record { cause = h.cause; reads = e ∙ h.reads; by_numbers = h.by_numbers }
 
-  pub passes_by : {r : Step} → Passes L s p m₁ r → Passes L s p m r
+  pub passes_by : {r : Result Parser Refusal} → Passes L s p m₁ r → Passes L s p m r
   passes_by {r} h = record { so = go r h.so }
     where
-      go : (r : Step) → PassesAs L s p m₁ r → PassesAs L s p m r
-      go (Ahead q) h = record { reads = e ∙ h.reads; kept = h.kept }
-      go (Stopped r) h = denied_by h
+      go : (r : Result Parser Refusal) → PassesAs L s p m₁ r → PassesAs L s p m r
+      go (Ok q) h = record { reads = e ∙ h.reads; kept = h.kept }
+      go (Err r) h = denied_by h
 
-  pub reads_by : {i : ℕ} {l l' : List ℕ} {r : Parsed} → Reads L s p m₁ i l l' r → Reads L s p m i l l' r
-  reads_by {i} {l} {l'} {r} h = record { so = go r h.so }
+  pub reads_by : {o n : Writer} {r : Result Parser Refusal} → Reads L s p m₁ o n r → Reads L s p m o n r
+  reads_by {o} {n} {r} h = record { so = go r h.so }
     where
-      go : (r : Parsed) → ReadsAs L s p m₁ i l l' r → ReadsAs L s p m i l l' r
-      go (Done q w) h = record { v = h.v; reads = e ∙ h.reads; kept = h.kept; wrote = h.wrote }
-      go (Refused r) h = denied_by h
+      go : (r : Result Parser Refusal) → ReadsAs L s p m₁ o n r → ReadsAs L s p m o n r
+      go (Ok q) h = record { v = h.v; reads = e ∙ h.reads; kept = h.kept; puts = h.puts }
+      go (Err r) h = denied_by h

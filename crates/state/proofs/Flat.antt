@@ -15,7 +15,7 @@ use borrow.Author.Tests.{eqb-true, eq-eqb, ne_eqb}
 use Rattle.lexer.proofs.Branches.{or_split}
 use Rattle.lexer.specs.Text.{is}
 use Rattle.lexer.specs.Tokens.{size_of}
-use Rattle.lexer.specs.Scanned.{kind_of as byte_of, value_of}
+use Rattle.lexer.specs.Scanned.{number_of, kind_of as scanned_kind, value_of}
 use Rattle.lexer.specs.declared.LiteralKind.TheVariants.{Number, Text}
 use Rattle.lexer.specs.declared.PunctuationKind.TheVariants.{CloseBracket, CloseParenthesis, Colon, Comma, Dollar, Dot, ForwardSlash, Minus, OpenBracket, OpenParenthesis, Plus, Star}
 use Rattle.lexer.specs.declared.Token.TheVariants.{Whitespace, Identifier, Literal, Punctuation, Comment, NewLine, EndOfFile, Invalid}
@@ -26,7 +26,11 @@ use Rattle.lexer.proofs.TokensText.{InRange}
 use Rattle.rules.specs.Lexemes.{Kind, word, number, quoted, mark, newline, invalid, bad, is_gap, kind_of}
 use Rattle.rules.specs.Reader.{is_mark, is_line_end, refused_as}
 use Rattle.state.specs.declared.Parser.{Parser}
-use Rattle.state.specs.Views.{kind_by, Plain, text_of, here_of}
+use Rattle.state.specs.Views.{kind_by, ends_line, Plain, text_of, here_of}
+
+-- the number of a token's kind
+abbrev pub byte_of : TokenRead → ℕ
+byte_of t = number_of (scanned_kind t)
 
 -- What holds at each byte that stands for a kind, and at any other byte as a mark, holds of every flat token.
 module _ (P : ℕ → Kind → Type 0) (k v : ℕ) (w : List ℕ) where
@@ -135,11 +139,11 @@ plain a e =
 
 -- The token ahead is a mark, or not; it ends the line, or not.
 module _ (s : List ℕ) (p : Parser) (a : Char) (h : Plain a) where
-  pub mark_ahead : p.kind ≡ code a → is_mark a (here_of s p).kind ≡ true
-  mark_ahead e = mark_is p.kind p.value (text_of s p.token_start p.pos) a h ∙ eq-eqb _ _ e
+  pub mark_ahead : number_of p.kind ≡ code a → is_mark a (here_of s p).kind ≡ true
+  mark_ahead e = mark_is (number_of p.kind) p.value (text_of s p.token_start p.pos) a h ∙ eq-eqb _ _ e
 
-  pub other_ahead : (p.kind ≡ code a → ⊥) → is_mark a (here_of s p).kind ≡ false
-  other_ahead e = mark_is p.kind p.value (text_of s p.token_start p.pos) a h ∙ ne_eqb _ _ e
+  pub other_ahead : (number_of p.kind ≡ code a → ⊥) → is_mark a (here_of s p).kind ≡ false
+  other_ahead e = mark_is (number_of p.kind) p.value (text_of s p.token_start p.pos) a h ∙ ne_eqb _ _ e
 
-pub end_ahead : (s : List ℕ) (p : Parser) {a b : Bool} → a ≡ (eqb p.kind 10 || eqb p.kind 0) → a ≡ b → is_line_end (here_of s p).kind ≡ b
-end_ahead s p e f = line_end_is p.kind p.value (text_of s p.token_start p.pos) ∙ sym e ∙ f
+pub end_ahead : (s : List ℕ) (p : Parser) {a b : Bool} → a ≡ ends_line p.kind → a ≡ b → is_line_end (here_of s p).kind ≡ b
+end_ahead s p e f = line_end_is (number_of p.kind) p.value (text_of s p.token_start p.pos) ∙ sym e ∙ f

@@ -3,3 +3,4 @@ pub mod Flat
 pub mod Stream
 pub mod Steps
 pub mod Bytes
+pub mod ByNumber

@@ -12,7 +12,7 @@ use lib.ListN.{length, get_or, drop, take, drop_of_length-le, length-drop}
 use lib.Seq.{drop-cons, drop-drop}
 use borrow.Author.Tests.{ltb-true, ltb-false, eqb-true, eqb-false}
 use Rattle.lexer.specs.Tokens.{token_with, token_at, size_of}
-use Rattle.lexer.specs.Scanned.{kind_of as byte_of, value_of}
+use Rattle.lexer.specs.Scanned.{value_of}
 use Rattle.lexer.specs.declared.TokenRead.{TokenRead}
 use Rattle.lexer.specs.declared.TokenRead.TheVariants.{Read, Refused}
 use Rattle.lexer.specs.declared.Token.TheVariants.{Whitespace, Identifier, Literal, Punctuation, Comment, NewLine, EndOfFile, Invalid}
@@ -25,7 +25,7 @@ use Rattle.rules.proofs.Lexemes.{tokens_skip}
 use Rattle.rules.specs.Reader.{is_line_end}
 use Rattle.rules.specs.Statements.{Row, push, rows}
 use Rattle.state.specs.Views.{kind_by, text_of, token_of, behind, more_in, below_in, more_of, below_of}
-use Rattle.state.proofs.Flat.{flat_kind, kind_end}
+use Rattle.state.proofs.Flat.{byte_of, flat_kind, kind_end}
 
 -- the end of file is empty, so no byte is read as it
 never_end : (t : TokenRead) → InRange t → 1 ≤ size_of t → eqb (byte_of t) 0 ≡ false

@@ -1,27 +1,32 @@
 -- The code's state and its answers, seen as those of the rules.
-use Rattle.std.specs.Prelude.{ℕ, ◌-◌, ◌≡◌, true, false, List, [], ◌∷◌, eqb, length, take, drop, if◌then◌else◌}
+use Rattle.std.specs.Prelude.{ℕ, ◌-◌, ◌≡◌, Bool, true, false, ◌||◌, List, [], ◌∷◌, eqb, length, take, drop, if◌then◌else◌, Option, Some, None, Result, Ok, Err}
 use Prim.Native.Char.{Char, code}
 use Rattle.rules.specs.Lexemes.{Kind, word, number, quoted, mark, newline, invalid, bad, Lexeme, tokens_from}
 use Rattle.rules.specs.Records.{Record, listing}
 use Rattle.rules.specs.Reader.{Cause, at, numbers_of, done, refused, Reader, Line, next, expect}
 use Rattle.rules.specs.Statements.{Row, State, rows}
-use Rattle.records.specs.Writes.{Wrote}
-use Rattle.state.specs.declared.Parser.{Parser}
+use Rattle.lexer.specs.declared.Kind.{Kind as TokenKind}
+use Rattle.lexer.specs.Scanned.{number_of as kind_number}
+use Rattle.records.specs.declared.Writer.{Writer}
+use Rattle.records.specs.Writers.{Puts}
+use Rattle.refusals.specs.declared.Reason.{Reason}
 use Rattle.refusals.specs.declared.Refusal.{Refusal}
-use Rattle.state.specs.declared.Step.{Step}
-use Rattle.state.specs.declared.Step.TheVariants.{Ahead, Stopped}
-use Rattle.state.specs.declared.Parsed.{Parsed}
-use Rattle.state.specs.declared.Parsed.TheVariants.{Done, Refused}
+use Rattle.refusals.specs.Refusals.{number_of, numbers, by_numbers}
+use Rattle.state.specs.declared.Parser.{Parser}
+
+-- A line ends at its line feed or at the end of the source.
+abbrev pub ends_line : TokenKind → Bool
+ends_line k = eqb (kind_number k) 10 || eqb (kind_number k) 0
 
 -- The token ahead does not end its line.
 abbrev pub InLine : Parser → Type 0
-InLine p = (eqb p.kind 10 ≡ false) × (eqb p.kind 0 ≡ false)
+InLine p = ends_line p.kind ≡ false
 
 -- a state from its numbers
-abbrev pub parser_of : (pos start last kind value : ℕ) → Parser
+abbrev pub parser_of : (pos start last : ℕ) → TokenKind → (value : ℕ) → Parser
 parser_of e a l k v = record { pos = e; token_start = a; last_token_end = l; kind = k; value = v }
 
--- The kind of a token from its flat form and its text. The end of the source is a line end.
+-- The kind of a token from the number of its kind, its value and its text. The end of the source is a line end.
 unfoldable pub kind_by : ℕ → ℕ → List ℕ → Kind
 kind_by k v w =
     if eqb k 97 then word w
@@ -56,7 +61,7 @@ abbrev pub token_of : List ℕ → (a e k v : ℕ) → Lexeme
 token_of s a e k v = record { from = a; to = e; kind = kind_by k v (text_of s a e) }
 
 abbrev pub here_of : List ℕ → Parser → Lexeme
-here_of s p = token_of s p.token_start p.pos p.kind p.value
+here_of s p = token_of s p.token_start p.pos (kind_number p.kind) p.value
 
 -- what stands behind a token of kind k that ends at e: nothing behind the end of the source
 unfoldable pub behind : List ℕ → ℕ → ℕ → List Lexeme
@@ -84,7 +89,7 @@ abbrev pub state_from : ℕ → Lexeme → List Lexeme → State
 state_from l x xs = record { line = line_from l x xs; below = below_of x xs }
 
 abbrev pub state_of : List ℕ → Parser → State
-state_of s p = state_from p.last_token_end (here_of s p) (behind s p.kind p.pos)
+state_of s p = state_from p.last_token_end (here_of s p) (behind s (kind_number p.kind) p.pos)
 
 abbrev pub line_of : List ℕ → Parser → Line
 line_of s p = (state_of s p).line
@@ -109,47 +114,72 @@ abbrev pub Kept : Level → List ℕ → Parser → Parser → Type 0
 Kept line s p q = rows_of s q ≡ rows_of s p
 Kept whole s p q = Unit {0}
 
--- From p the reader m comes to q with the value a; its records are written from `at` on, and w is the place behind them.
-pub record Gives (L : Level) (s : List ℕ) (p : Parser) {A : Type 0} (m : Reader (On L) A)
-    (at : ℕ) (l l' : List ℕ) (q : Parser) (w : ℕ) (a : A) : Type 0 where
+-- From p the reader m comes to q with the value a; its records are put.
+pub record Gives (L : Level) (s : List ℕ) (p : Parser) {A : Type 0} (m : Reader (On L) A) (old new : Writer) (q : Parser) (a : A) : Type 0 where
   pub v : List Record
   pub reads : m (view L s p) ≡ done v a (view L s q)
   pub kept : Kept L s p q
-  pub wrote : Wrote at (listing v) l l' w
+  pub puts : Puts (listing v) old new
 
 -- From p the reader m refuses so.
 pub record Denies (L : Level) (s : List ℕ) (p : Parser) {A : Type 0} (m : Reader (On L) A) (r : Refusal) : Type 0 where
   pub cause : Cause
   pub reads : m (view L s p) ≡ refused cause
-  pub numbers : r ≡ numbers_of cause
+  pub by_numbers : numbers r ≡ numbers_of cause
 
 -- From p the reader m comes to q with the value a and writes nothing.
 pub record Comes (L : Level) (s : List ℕ) (p : Parser) {A : Type 0} (m : Reader (On L) A) (q : Parser) (a : A) : Type 0 where
   pub reads : m (view L s p) ≡ done [] a (view L s q)
   pub kept : Kept L s p q
 
--- What the code's answers say of the reader that is meant. At a refusal the bytes of the lent buffer are free; its length is the same. So
--- the calls lend a buffer of their own, or read a second time what was not refused.
-abbrev pub ReadsAs : (L : Level) → List ℕ → Parser → Reader (On L) (Unit {0}) → ℕ → List ℕ → List ℕ → Parsed → Type 0
-ReadsAs L s p m i l l' (Done q w) = Gives L s p m i l l' q w tt
-ReadsAs L s p m i l l' (Refused r) = Denies L s p m r
+-- What the code's answers say of the reader that is meant. At a refusal the bytes of the writer's buffer are free. So the calls lend a
+-- buffer of their own, or read a second time what was not refused.
+abbrev pub ReadsAs : (L : Level) → List ℕ → Parser → Reader (On L) (Unit {0}) → Writer → Writer → Result Parser Refusal → Type 0
+ReadsAs L s p m old new (Ok q) = Gives L s p m old new q tt
+ReadsAs L s p m old new (Err r) = Denies L s p m r
 
-pub record Reads (L : Level) (s : List ℕ) (p : Parser) (m : Reader (On L) (Unit {0})) (at : ℕ) (l l' : List ℕ) (r : Parsed) : Type 0 where
-  pub so : ReadsAs L s p m at l l' r
+pub record Reads (L : Level) (s : List ℕ) (p : Parser) (m : Reader (On L) (Unit {0})) (old new : Writer) (r : Result Parser Refusal) : Type 0 where
+  pub so : ReadsAs L s p m old new r
 
-abbrev pub PassesAs : (L : Level) → List ℕ → Parser → Reader (On L) (Unit {0}) → Step → Type 0
-PassesAs L s p m (Ahead q) = Comes L s p m q tt
-PassesAs L s p m (Stopped r) = Denies L s p m r
+-- A reader that gives a value, which the code has as a B; `seen` says which one it is.
+abbrev pub ReadsWithAs : (L : Level) → List ℕ → Parser → {A B : Type 0} → (B → A) → Reader (On L) A → Writer → Writer
+    → Result (Parser × B) Refusal → Type 0
+ReadsWithAs L s p seen m old new (Ok q) = Gives L s p m old new q.0 (seen q.1)
+ReadsWithAs L s p seen m old new (Err r) = Denies L s p m r
 
-pub record Passes (L : Level) (s : List ℕ) (p : Parser) (m : Reader (On L) (Unit {0})) (r : Step) : Type 0 where
+pub record ReadsWith (L : Level) (s : List ℕ) (p : Parser) {A B : Type 0} (seen : B → A) (m : Reader (On L) A) (old new : Writer)
+    (r : Result (Parser × B) Refusal) : Type 0 where
+  pub so : ReadsWithAs L s p seen m old new r
+
+abbrev pub PassesAs : (L : Level) → List ℕ → Parser → Reader (On L) (Unit {0}) → Result Parser Refusal → Type 0
+PassesAs L s p m (Ok q) = Comes L s p m q tt
+PassesAs L s p m (Err r) = Denies L s p m r
+
+pub record Passes (L : Level) (s : List ℕ) (p : Parser) (m : Reader (On L) (Unit {0})) (r : Result Parser Refusal) : Type 0 where
   pub so : PassesAs L s p m r
 
--- The first token from a place on: from a to before e, of kind k and value v; and what stands behind it.
-pub record Fetches (s : List ℕ) (place a e k v : ℕ) : Type 0 where
-  pub tokens : tokens_from place 0 (drop place s) ≡ token_of s a e k v ∷ behind s k e
+-- One that writes nothing and gives a value.
+abbrev pub LooksAs : (L : Level) → List ℕ → Parser → {A B : Type 0} → (B → A) → Reader (On L) A → Result (Parser × B) Refusal → Type 0
+LooksAs L s p seen m (Ok q) = Comes L s p m q.0 (seen q.1)
+LooksAs L s p seen m (Err r) = Denies L s p m r
 
--- Past the token ahead, which has to be of the kind of this byte, and is refused otherwise. Where the byte is a mark's, that is `expect`.
-pub record Expects (s : List ℕ) (p : Parser) (byte n : ℕ) (r : Step) : Type 0 where
-  pub there : p.kind ≡ byte → Passes line s p next r
-  pub other : (p.kind ≡ byte → ⊥) → r ≡ Stopped (numbers_of (at n p.token_start p.pos))
-  pub so : (a : Char) → code a ≡ byte → Plain a → Passes line s p (expect a n) r
+pub record Looks (L : Level) (s : List ℕ) (p : Parser) {A B : Type 0} (seen : B → A) (m : Reader (On L) A) (r : Result (Parser × B) Refusal) : Type 0 where
+  pub so : LooksAs L s p seen m r
+
+-- The first token from a place on: from a to before e, of kind k and value v; and what stands behind it.
+pub record Fetches (s : List ℕ) (place a e : ℕ) (k : TokenKind) (v : ℕ) : Type 0 where
+  pub tokens : tokens_from place 0 (drop place s) ≡ token_of s a e (kind_number k) v ∷ behind s (kind_number k) e
+
+-- A kind that is refused (30, 31), and why.
+abbrev pub is_bad : TokenKind → Bool
+is_bad k = eqb (kind_number k) 30 || eqb (kind_number k) 31
+
+abbrev pub FaultOf : TokenKind → Option Reason → Type 0
+FaultOf k None = is_bad k ≡ false
+FaultOf k (Some r) = (number_of r ≡ kind_number k) × (is_bad k ≡ true)
+
+-- Past the token ahead, which has to be of this kind, and is refused otherwise. Where the kind is a mark's, that is `expect`.
+pub record Expects (s : List ℕ) (p : Parser) (kind : TokenKind) (n : Reason) (r : Result Parser Refusal) : Type 0 where
+  pub there : p.kind ≡ kind → Passes line s p next r
+  pub other : (p.kind ≡ kind → ⊥) → by_numbers r ≡ Err (numbers_of (at (number_of n) p.token_start p.pos))
+  pub so : (a : Char) → code a ≡ kind_number kind → Plain a → Passes line s p (expect a (number_of n)) r

@@ -1,138 +1,98 @@
 // The parser's state, one token ahead, and the steps that all readers share.
 #![tactic(auto)]
 
-ghost use Rattle.std.specs.Prelude.{◌≡◌, true, false, ◌||◌, eqb};
+ghost use Rattle.std.specs.Prelude.{◌≡◌, false, ◌||◌, eqb};
+ghost use Rattle.lexer.specs.Scanned.{number_of as kind_number};
+ghost use Rattle.lexer.specs.declared.Kind.TheVariants as Kind;
+ghost use Rattle.refusals.specs.Refusals.{number_of, numbers};
 ghost use Rattle.rules.specs.Reader.{at, next as next_token, numbers_of};
 ghost use Rattle.rules.specs.Statements.{next_row};
-ghost use Rattle.rules.specs.Calls.{Short};
-ghost use Rattle.state.specs.Views.{InLine, text_of, line, whole, Passes, Fetches, Expects};
+ghost use Rattle.state.specs.Views.{InLine, ends_line, text_of, line, whole, Passes, Fetches, FaultOf, Expects};
 
-use refusals::{Refusal, refused_at};
+use lexer::Kind;
+use refusals::{Reason, Refusal, refused_at};
+use source::Source;
+
+pub mod source;
 
 // The token ahead stands from `token_start` to before `pos`; the last one passed in its line ended at `last_token_end`.
-// `kind` is the token's, as the lexer's scan gives it, and so is `value` where it is a number; else no reader looks at `value`.
+// `value` is the token's where it is a number; else no reader looks at it. It stands beside the kind, since two readers take it and all others
+// compare the kind alone. The fields' order is `Refusal`'s, which says why.
 #[derive(Clone, Copy)]
 pub struct Parser {
     pub pos: u32,
     pub token_start: u32,
+    pub kind: Kind,
     pub last_token_end: u32,
-    pub kind: u32,
     pub value: u32,
 }
 
-// The kinds that readers ask for. They are the lexer's, in the width of the state, whose fields are all of one width: parts of
-// words would have to be masked at each copy.
-pub const END_OF_FILE: u32 = lexer::END_OF_FILE as u32;
-
-pub const LINE_FEED: u32 = lexer::NEW_LINE as u32;
-
-pub const WORD: u32 = lexer::IDENTIFIER as u32;
-
-pub const NUMBER: u32 = lexer::NUMBER as u32;
-
-pub const CLOSED: u32 = lexer::CLOSED as u32;
-
-pub const UNCLOSED: u32 = lexer::UNCLOSED as u32;
-
-const WHITESPACE: u32 = lexer::WHITESPACE as u32;
-
-const COMMENT: u32 = lexer::COMMENT as u32;
-
-const LARGER_DIGIT: u32 = lexer::LARGER_DIGIT as u32;
-
-const TOO_LARGE: u32 = lexer::TOO_LARGE as u32;
-
-pub const PLUS: u32 = b'+' as u32;
-
-pub const MINUS: u32 = b'-' as u32;
-
-pub const STAR: u32 = b'*' as u32;
-
-pub const SLASH: u32 = b'/' as u32;
-
-pub const OPENING: u32 = b'(' as u32;
-
-pub const CLOSING: u32 = b')' as u32;
-
-pub const OPENING_BRACKET: u32 = b'[' as u32;
-
-pub const CLOSING_BRACKET: u32 = b']' as u32;
-
-pub const COLON: u32 = b':' as u32;
-
-pub const COMMA: u32 = b',' as u32;
-
-pub const DOLLAR_SIGN: u32 = b'$' as u32;
-
-#[derive(Clone, Copy)]
-pub enum Step {
-    Ahead(Parser),
-    Stopped(Refusal),
-}
-
-// The answer of a reader that writes: the state and the place behind its records.
-#[derive(Clone, Copy)]
-pub enum Parsed {
-    Done(Parser, u32),
-    Refused(Refusal),
-}
-
 // Refused on the token ahead.
-pub fn refuse_here(p: Parser, number: u32) -> Refusal
-    ensures { result ≡ numbers_of (at number p.token_start p.pos) }
+pub fn refuse_here(p: Parser, reason: Reason) -> Refusal
+    ensures { numbers result ≡ numbers_of (at (number_of reason) p.token_start p.pos) }
 {
-    refused_at(number, p.token_start, p.pos)
+    refused_at(reason, p.token_start, p.pos)
 }
 
-// A token that means something, where it stands.
+// A token that means something, where it stands; its value beside its kind, as in `Parser`.
 #[derive(Drop)]
 struct Fetched {
     start: u32,
     end: u32,
-    kind: u32,
+    kind: Kind,
     value: u32,
 }
 
-// The first token from a place on, past whitespace and comments.
-fn fetch(src: &[u8], place: u32) -> Fetched
-    requires { Short src.now }
-    ensures { Fetches src.now place result.start result.end result.kind result.value }
+// What stands between tokens that mean something.
+fn is_gap(kind: Kind) -> bool
+    ensures { result ≡ (eqb (kind_number kind) 32 || eqb (kind_number kind) 59) }
 {
+    matches!(kind, Kind::Whitespace | Kind::Comment)
+}
+
+// The first token from a place on, past whitespace and comments.
+fn fetch(source: Source<'_>, place: u32) -> Fetched
+    ensures { Fetches source.entry.text.now place result.start result.end result.kind result.value }
+{
+    // no `for`: a step is a token, whose length is known when it is read
     let mut at = place;
     loop {
-        let t = lexer::scan(src, at as usize);
-        let kind = t.kind as u32;
+        let t = lexer::scan(source.text, at as usize);
         let end = t.end as u32;
-        if (kind == WHITESPACE) | (kind == COMMENT) {
+        if is_gap(t.kind) {
             at = end;
         } else {
             return Fetched {
                 start: at,
-                end: end,
-                kind: kind,
+                end,
+                kind: t.kind,
                 value: t.value,
             };
         }
     }
 }
 
-// A number that is refused: 30 and 31.
-fn is_fault(kind: u32) -> bool
-    ensures { result ≡ (eqb kind 30 || eqb kind 31) }
+// Why a number is refused: 30 and 31.
+fn fault(kind: Kind) -> Option<Reason>
+    ensures { FaultOf kind result }
 {
-    (kind == LARGER_DIGIT) | (kind == TOO_LARGE)
+    match kind {
+        Kind::LargerDigit => Some(Reason::BinaryLargerDigit),
+        Kind::TooLarge => Some(Reason::PrefixedTooLarge),
+        _ => None,
+    }
 }
 
 // The next token of the line becomes the one ahead.
-pub fn next(src: &[u8], p: Parser) -> Step
-    requires { Short src.now × InLine p }
-    ensures { Passes line src.now p next_token result }
+pub fn next(source: Source<'_>, p: Parser) -> Result<Parser, Refusal>
+    requires { InLine p }
+    ensures { Passes line source.entry.text.now p next_token result }
 {
-    let t = fetch(src, p.pos);
-    if is_fault(t.kind) {
-        return Step::Stopped(refused_at(t.kind, t.start, t.end));
+    let t = fetch(source, p.pos);
+    if let Some(reason) = fault(t.kind) {
+        return Err(refused_at(reason, t.start, t.end));
     }
-    Step::Ahead(Parser {
+    Ok(Parser {
         pos: t.end,
         token_start: t.start,
         last_token_end: p.pos,
@@ -141,16 +101,17 @@ pub fn next(src: &[u8], p: Parser) -> Step
     })
 }
 
-// The first token of the next line becomes the one ahead; no token of that line is passed yet.
-pub fn next_line(src: &[u8], p: Parser) -> Step
-    requires { Short src.now × (eqb p.kind 10 ≡ true) }
-    ensures { Passes whole src.now p next_row result }
+// The first token of the next line becomes the one ahead; no token of that line is passed yet. It stays beside `next`: the two ask and say other
+// things of one fetch.
+pub fn next_line(source: Source<'_>, p: Parser) -> Result<Parser, Refusal>
+    requires { p.kind ≡ Kind.NewLine }
+    ensures { Passes whole source.entry.text.now p next_row result }
 {
-    let t = fetch(src, p.pos);
-    if is_fault(t.kind) {
-        return Step::Stopped(refused_at(t.kind, t.start, t.end));
+    let t = fetch(source, p.pos);
+    if let Some(reason) = fault(t.kind) {
+        return Err(refused_at(reason, t.start, t.end));
     }
-    Step::Ahead(Parser {
+    Ok(Parser {
         pos: t.end,
         token_start: t.start,
         last_token_end: t.start,
@@ -159,32 +120,33 @@ pub fn next_line(src: &[u8], p: Parser) -> Step
     })
 }
 
-// Past the token ahead, which has to be the mark of this character.
-pub fn expect(src: &[u8], p: Parser, mark: u32, number: u32) -> Step
-    requires { Short src.now × (eqb mark 10 ≡ false) × (eqb mark 0 ≡ false) }
-    ensures { Expects src.now p mark number result }
+// Past the token ahead, which has to be of this kind.
+pub fn expect(source: Source<'_>, p: Parser, kind: Kind, reason: Reason) -> Result<Parser, Refusal>
+    requires { ends_line kind ≡ false }
+    ensures { Expects source.entry.text.now p kind reason result }
 {
-    if p.kind == mark {
-        return next(src, p);
+    if p.kind == kind {
+        return next(source, p);
     }
-    Step::Stopped(refuse_here(p, number))
+    Err(refuse_here(p, reason))
 }
 
 // A line ends at its line feed or at the end of the source.
-pub fn is_line_end(kind: u32) -> bool
-    ensures { result ≡ (eqb kind 10 || eqb kind 0) }
+pub fn is_line_end(kind: Kind) -> bool
+    ensures { result ≡ ends_line kind }
 {
-    (kind == LINE_FEED) | (kind == END_OF_FILE)
+    matches!(kind, Kind::NewLine | Kind::EndOfFile)
 }
 
 // The token's bytes.
-pub fn text(src: &[u8], p: Parser) -> &[u8]
-    ensures { result.now ≡ text_of src.now p.token_start p.pos }
+#[tactic(auto, unfolding(crate::specs::Views::text_of))]
+pub fn text<'a>(source: Source<'a>, p: Parser) -> &'a [u8]
+    ensures { result.now ≡ text_of source.entry.text.now p.token_start p.pos }
 {
     let from = p.token_start as usize;
     let to = p.pos as usize;
     if from < to {
-        return lexer::source_at(src, from, to - from);
+        return lexer::source_at(source.text, from, to - from);
     }
-    lexer::source_at(src, from, 0)
+    lexer::source_at(source.text, from, 0)
 }

@@ -1,27 +1,31 @@
--- Data: the bytes of the literals, one behind the other, and their record, which is written when they are.
+-- Data: the bytes of the literals, one behind the other, and their record.
 -- Assumes nothing.
-use Prim.Native.Nat.{ℕ, zero, suc, ◌+◌, ◌-◌, ◌≤◌, ◌<◌}
+use Prim.Native.Nat.{ℕ, zero, suc, ◌-◌, ◌≤◌, ◌<◌}
 use mathlib.Core.Path.{◌≡◌, refl, sym, ap, subst, ◌∙◌}
 use mathlib.Core.List.{List, [], ◌∷◌, ◌++◌, append_assoc, append-nil}
 use mathlib.Core.Bool.{Bool, true, false, ◌||◌}
 use native.Mathlib.Omega.{arith}
-use borrow.Author.Tests.{lt-ltb, le-leb, lt-leb, eq-eqb, ne_eqb}
+use borrow.Author.Tests.{lt-ltb, le-leb, lt-leb}
 use lib.Dec.{eqb, ltb}
 use lib.ListN.{length, take}
-use Rattle.lexer.specs.Text.{is, bytes}
+use Rattle.lexer.specs.Text.{is}
 use Rattle.rules.specs.Lexemes.{Lexeme}
-use Rattle.rules.specs.Records.{LD, field, fields, encode}
-use Rattle.rules.specs.Reader.{Cause, at as at_span, Answer, done, refused, Reader, Line, after, thence, ◌>>=◌, ◌>>◌, return, write, refuse, kind, passed, next, refuse_here, is_line_end, numbers_of}
+use Rattle.rules.specs.Records.{LD, field}
+use Rattle.rules.specs.Reader.{Cause, at as at_span, Answer, done, refused, Reader, Line, after, thence, ◌>>=◌, ◌>>◌, return, write, refuse, kind, passed, next, refuse_here, numbers_of}
 use Rattle.rules.specs.Statements.{largest, fits, State, in_line, line_end, literal_of, literals, some_data}
-use Rattle.records.specs.Writes.{limit, Wrote}
-use Rattle.records.proofs.Writes.{nothing, follows, headed}
+use Rattle.lexer.proofs.Branches.{or_split}
+use Rattle.lexer.specs.Scanned.{number_of as kind_number}
+use Rattle.records.specs.declared.Writer.{Writer}
+use Rattle.records.specs.Writers.{Puts}
+use Rattle.records.proofs.Writers.{puts_nothing, puts_follow}
+use Rattle.refusals.specs.Refusals.{numbers}
+use Rattle.statements.proofs.Lines.{inside_falls}
 use Rattle.state.specs.declared.Parser.{Parser}
 use Rattle.refusals.specs.declared.Refusal.{Refusal}
-use Rattle.state.specs.Views.{kind_by, text_of, here_of, state_of, line_of, rows_of, line, whole, Comes, Denies}
+use Rattle.state.specs.Views.{ends_line, kind_by, text_of, state_of, line_of, rows_of, line, whole, Comes, Denies}
 use Rattle.statements.specs.Statements.{between, is_some, front, Literal, NoLiteral, literals_from, Literals}
 use Rattle.state.proofs.Chain.{after_nil, Sofar, becomes, denied, refuses}
 use Rattle.state.proofs.Flat.{by_kind}
-use Rattle.statements.proofs.Lines.{inside, inside_falls}
 
 -- bytes in front
 front_nil : (o : Answer Line (List ℕ)) → front [] o ≡ o
@@ -38,15 +42,7 @@ some_append : (a b : List ℕ) → is_some (a ++ b) ≡ (is_some a || is_some b)
 some_append [] b = refl
 some_append (x ∷ a) b = refl
 
--- The largest number that fits, and the test by it.
-pub byte_largest : (width : ℕ) → width ≡ 1 → 255 ≡ largest width
-unfolding largest
-byte_largest width e = rw (eq-eqb width 1 e)
-
-pub word_largest : (width : ℕ) → ¬ (width ≡ 1) → 65535 ≡ largest width
-unfolding largest
-word_largest width h = rw (ne_eqb width 1 h)
-
+-- The test of a number's size.
 pub within : (width v : ℕ) {m : ℕ} → m ≡ largest width → v ≤ m → fits width v ≡ true
 unfolding fits
 within width v e h = le-leb v (largest width) (rw e at h)
@@ -107,108 +103,113 @@ module _ (s : List ℕ) (p : Parser) (width : ℕ) where
   abbrev of : ℕ → Reader Line (List ℕ) → Answer Line (List ℕ)
   of k others = literal_of fits (kind_by k p.value text) width others (line_of s p)
 
-  pub is_comma : (i : ℕ) (l : List ℕ) → p.kind ≡ 44 → Literal s p width i l l i false
-  is_comma i l e = record { ds = []; reads = λ others. ap (λ (k : ℕ). of k others) e ∙ comma_is p.value text width others (line_of s p); wrote = nothing i l; is_some_lem = refl }
+  pub is_comma : (o : Writer) → kind_number p.kind ≡ 44 → Literal s p width o o false
+  is_comma o e = record { ds = []; reads = λ others. ap (λ (k : ℕ). of k others) e ∙ comma_is p.value text width others (line_of s p); puts = puts_nothing o; is_some_lem = refl }
 
-  module _ {i w : ℕ} {l l' : List ℕ} where
-    pub is_number : p.kind ≡ 48 → fits width p.value ≡ true → 1 ≤ width → Wrote i (take width (field p.value)) l l' w → Literal s p width i l l' w true
-    is_number e f h k = record { ds = take width (field p.value); reads = λ others. ap (λ (k : ℕ). of k others) e ∙ number_is p.value text width others (line_of s p) f; wrote = k; is_some_lem = some_number p.value width h }
+  module _ {o n : Writer} where
+    pub is_number : kind_number p.kind ≡ 48 → fits width p.value ≡ true → 1 ≤ width → Puts (take width (field p.value)) o n → Literal s p width o n true
+    is_number e f h k = record { ds = take width (field p.value); reads = λ others. ap (λ (k : ℕ). of k others) e ∙ number_is p.value text width others (line_of s p) f; puts = k; is_some_lem = some_number p.value width h }
 
-    pub is_string : p.kind ≡ 39 → {t : List ℕ} → t ≡ text → Wrote i (between t) l l' w → Literal s p width i l l' w (ltb 2 (length t))
-    is_string e f k = rw f (record { ds = between text; reads = λ others. ap (λ (k : ℕ). of k others) e ∙ string_is p.value text width others (line_of s p); wrote = rw f at k; is_some_lem = some_between text })
+    pub is_string : kind_number p.kind ≡ 39 → {t : List ℕ} → t ≡ text → Puts (between t) o n → Literal s p width o n (ltb 2 (length t))
+    is_string e f k = rw f (record { ds = between text; reads = λ others. ap (λ (k : ℕ). of k others) e ∙ string_is p.value text width others (line_of s p); puts = rw f at k; is_some_lem = some_between text })
 
   -- refused on the token ahead
-  pub is_wide : p.kind ≡ 48 → fits width p.value ≡ false → NoLiteral s p width (numbers_of (at_span 60 p.token_start p.pos))
-  unfolding refuse_here
-  is_wide e f = record { cause = at_span 60 p.token_start p.pos; reads = λ others. ap (λ (k : ℕ). of k others) e ∙ wide_is p.value text width others (line_of s p) f; numbers = refl }
+  module _ {r : Refusal} where
+    pub is_wide : kind_number p.kind ≡ 48 → fits width p.value ≡ false → numbers r ≡ numbers_of (at_span 60 p.token_start p.pos) → NoLiteral s p width r
+    unfolding refuse_here
+    is_wide e f h = record { cause = at_span 60 p.token_start p.pos; reads = λ others. ap (λ (k : ℕ). of k others) e ∙ wide_is p.value text width others (line_of s p) f; by_numbers = h }
 
-  pub is_open_lem : p.kind ≡ 34 → NoLiteral s p width (numbers_of (at_span 26 p.token_start p.pos))
-  unfolding refuse_here
-  is_open_lem e = record { cause = at_span 26 p.token_start p.pos; reads = λ others. ap (λ (k : ℕ). of k others) e ∙ open_is p.value text width others (line_of s p); numbers = refl }
+    pub is_open_lem : kind_number p.kind ≡ 34 → numbers r ≡ numbers_of (at_span 26 p.token_start p.pos) → NoLiteral s p width r
+    unfolding refuse_here
+    is_open_lem e h = record { cause = at_span 26 p.token_start p.pos; reads = λ others. ap (λ (k : ℕ). of k others) e ∙ open_is p.value text width others (line_of s p); by_numbers = h }
 
-  pub is_other : eqb p.kind 44 ≡ false → eqb p.kind 48 ≡ false → eqb p.kind 39 ≡ false → eqb p.kind 34 ≡ false → eqb p.kind 10 ≡ false → eqb p.kind 0 ≡ false
-      → NoLiteral s p width (numbers_of (at_span 15 p.token_start p.pos))
-  unfolding refuse_here
-  is_other a b c d e f = record { cause = at_span 15 p.token_start p.pos; reads = λ others. other_is p.value text width others (line_of s p) p.kind a b c d e f; numbers = refl }
+    pub is_other : eqb (kind_number p.kind) 44 ≡ false → eqb (kind_number p.kind) 48 ≡ false → eqb (kind_number p.kind) 39 ≡ false → eqb (kind_number p.kind) 34 ≡ false → ends_line p.kind ≡ false
+        → numbers r ≡ numbers_of (at_span 15 p.token_start p.pos) → NoLiteral s p width r
+    unfolding refuse_here
+    is_other a b c d e h = let f = or_split _ _ e in record {
+      cause = at_span 15 p.token_start p.pos;
+      reads = λ others. other_is p.value text width others (line_of s p) (kind_number p.kind) a b c d f.0 f.1;
+      by_numbers = h;
+    }
 
-  literals_is : literals_from s p width (line_of s p) ≡ of p.kind (literals fits (length (line_of s p).more) width)
+  literals_is : literals_from s p width (line_of s p) ≡ of (kind_number p.kind) (literals fits (length (line_of s p).more) width)
   unfolding literals ◌>>=◌ kind thence
   literals_is = after_nil _
 
   -- behind a literal the others follow from the next token
-  module _ {i w : ℕ} {l l' : List ℕ} {some : Bool} (h : Literal s p width i l l' w some) where
-    turn_is : (q : Parser) → is_line_end (here_of s p).kind ≡ false → Comes line s p next q tt → literals_from s p width (line_of s p) ≡ front h.ds (literals_from s q width (line_of s q))
+  module _ {o n : Writer} {some : Bool} (h : Literal s p width o n some) where
+    turn_is : (q : Parser) → ends_line p.kind ≡ false → Comes line s p next q tt → literals_from s p width (line_of s p) ≡ front h.ds (literals_from s q width (line_of s q))
     unfolding ◌>>◌ ◌>>=◌ thence
     turn_is q e k =
         literals_is ∙ h.reads (literals fits (length (line_of s p).more) width)
         ∙ ap (λ (o : Answer Line (Unit {0})). front h.ds (thence o (λ _. literals fits (length (line_of s p).more) width))) k.reads
         ∙ ap (front h.ds) (after_nil (literals fits (length (line_of s p).more) width (line_of s q)))
-        ∙ ap (λ (n : ℕ). front h.ds (literals fits n width (line_of s q))) (inside_falls s p e q k)
+        ∙ ap (λ (n : ℕ). front h.ds (literals fits n width (line_of s q))) (inside_falls e k)
 
     turn_denied : {c : Cause} → next (line_of s p) ≡ refused c → literals_from s p width (line_of s p) ≡ refused c
     unfolding ◌>>◌ ◌>>=◌ thence front
     turn_denied k = literals_is ∙ h.reads (literals fits (length (line_of s p).more) width) ∙ ap (λ (o : Answer Line (Unit {0})). front h.ds (thence o (λ _. literals fits (length (line_of s p).more) width))) k
 
-  pub literals_end : (eqb p.kind 10 || eqb p.kind 0) ≡ true → literals_from s p width (line_of s p) ≡ done [] [] (line_of s p)
-  literals_end e = literals_is ∙ end_is p.value text width _ (line_of s p) p.kind e
+  pub literals_end : ends_line p.kind ≡ true → literals_from s p width (line_of s p) ≡ done [] [] (line_of s p)
+  literals_end e = literals_is ∙ end_is p.value text width _ (line_of s p) (kind_number p.kind) e
 
--- The literals from p on have come to q: the bytes bs are written, and those from q on follow.
-pub record Front (s : List ℕ) (p : Parser) (width i : ℕ) (l : List ℕ) (q : Parser) (w : ℕ) (some : Bool) (l₁ : List ℕ) : Type 0 where
+-- The literals from p on have come to q: the bytes bs are put, and those from q on follow.
+pub record Front (s : List ℕ) (p : Parser) (width : ℕ) (o : Writer) (q : Parser) (some : Bool) (n : Writer) : Type 0 where
   pub bs : List ℕ
   pub reads : literals_from s p width (line_of s p) ≡ front bs (literals_from s q width (line_of s q))
   pub kept : rows_of s q ≡ rows_of s p
-  pub wrote : Wrote i bs l l₁ w
+  pub puts : Puts bs o n
   pub is_some_lem : some ≡ is_some bs
 
-pub front_starts : (s : List ℕ) (p : Parser) (width i : ℕ) (l : List ℕ) → Front s p width i l p i false l
-front_starts s p width i l = record { bs = []; reads = sym (front_nil _); kept = refl; wrote = nothing i l; is_some_lem = refl }
+pub front_starts : (s : List ℕ) (p : Parser) (width : ℕ) (o : Writer) → Front s p width o p false o
+front_starts s p width o = record { bs = []; reads = sym (front_nil _); kept = refl; puts = puts_nothing o; is_some_lem = refl }
 
-module _ {s : List ℕ} {p : Parser} {width i : ℕ} {l : List ℕ} {q : Parser} {w : ℕ} {some : Bool} {l₁ : List ℕ} (so : Front s p width i l q w some l₁) where
-  pub front_ends : (eqb q.kind 10 || eqb q.kind 0) ≡ true → Literals s p width i l l₁ q w some
+module _ {s : List ℕ} {p : Parser} {width : ℕ} {o : Writer} {q : Parser} {some : Bool} {n : Writer} (so : Front s p width o q some n) where
+  pub front_ends : ends_line q.kind ≡ true → Literals s p width o n q some
   unfolding front thence return after
   front_ends e = record {
     ds = so.bs;
     comes = record { reads = so.reads ∙ ap (front so.bs) (literals_end s q width e) ∙ rw (append-nil so.bs); kept = so.kept };
-    wrote = so.wrote;
+    puts = so.puts;
     is_some_lem = so.is_some_lem;
   }
 
   pub front_refused : {r : Refusal} → NoLiteral s q width r → Denies line s p (literals_from s p width) r
   unfolding front thence
-  front_refused h = record { cause = h.cause; reads = so.reads ∙ ap (front so.bs) (literals_is s q width ∙ h.reads _); numbers = h.numbers }
+  front_refused h = record { cause = h.cause; reads = so.reads ∙ ap (front so.bs) (literals_is s q width ∙ h.reads _); by_numbers = h.by_numbers }
 
-  module _ {n : ℕ} {l₂ : List ℕ} {more : Bool} (h : Literal s q width w l₁ l₂ n more) where
-    pub front_turns : is_line_end (here_of s q).kind ≡ false → {q₂ : Parser} → Comes line s q next q₂ tt → Front s p width i l q₂ n (some || more) l₂
+  module _ {w : Writer} {more : Bool} (h : Literal s q width n w more) where
+    pub front_turns : ends_line q.kind ≡ false → {q₂ : Parser} → Comes line s q next q₂ tt → Front s p width o q₂ (some || more) w
     front_turns e {q₂} k = record {
       bs = so.bs ++ h.ds;
       reads = so.reads ∙ ap (front so.bs) (turn_is s q width h q₂ e k) ∙ front_front so.bs h.ds _;
       kept = k.kept ∙ so.kept;
-      wrote = follows so.bs h.ds so.wrote h.wrote;
+      puts = puts_follow so.bs h.ds so.puts h.puts;
       is_some_lem = rw (so.is_some_lem, h.is_some_lem) (sym (some_append so.bs h.ds));
     }
 
     pub front_stops : {r : Refusal} → Denies line s q next r → Denies line s p (literals_from s p width) r
     unfolding front thence
-    front_stops k = record { cause = k.cause; reads = so.reads ∙ ap (front so.bs) (turn_denied s q width h k.reads); numbers = k.numbers }
+    front_stops k = record { cause = k.cause; reads = so.reads ∙ ap (front so.bs) (turn_denied s q width h k.reads); by_numbers = k.by_numbers }
 
 or_none : (b : Bool) → (b || false) ≡ b
 or_none true = refl
 or_none false = refl
 
 -- A comma says nothing, and is passed.
-module _ {s : List ℕ} {p : Parser} {width i : ℕ} {l : List ℕ} {q : Parser} {w : ℕ} {some : Bool} {l₁ : List ℕ} (so : Front s p width i l q w some l₁) (e : q.kind ≡ 44) where
-  pub comma_inside : is_line_end (here_of s q).kind ≡ false
-  comma_inside = inside s q (ap (λ (k : ℕ). eqb k 10) e) (ap (λ (k : ℕ). eqb k 0) e)
+module _ {s : List ℕ} {p : Parser} {width : ℕ} {o : Writer} {q : Parser} {some : Bool} {n : Writer} (so : Front s p width o q some n) (e : kind_number q.kind ≡ 44) where
+  pub comma_inside : ends_line q.kind ≡ false
+  comma_inside = ap (λ (k : ℕ). eqb k 10 || eqb k 0) e
 
-  pub comma_turns : {q₂ : Parser} → Comes line s q next q₂ tt → Front s p width i l q₂ w some l₁
-  comma_turns {q₂} k = subst (λ (b : Bool). Front s p width i l q₂ w b l₁) (or_none some) (front_turns so (is_comma s q width w l₁ e) comma_inside k)
+  pub comma_turns : {q₂ : Parser} → Comes line s q next q₂ tt → Front s p width o q₂ some n
+  comma_turns {q₂} k = subst (λ (b : Bool). Front s p width o q₂ b n) (or_none some) (front_turns so (is_comma s q width n e) comma_inside k)
 
   pub comma_stops : {r : Refusal} → Denies line s q next r → Denies line s p (literals_from s p width) r
-  comma_stops k = front_stops so (is_comma s q width w l₁ e) k
+  comma_stops k = front_stops so (is_comma s q width n e) k
 
 -- The record of data, whose word was x; 23 where there are none.
-module _ {s : List ℕ} {p q : Parser} {m : Reader State (Unit {0})} {i w : ℕ} {l l₁ : List ℕ} (x : Lexeme) (ds : List ℕ) (so : Sofar whole s p m i l q (some_data x ds) w l₁) where
-  pub data_some : is_some ds ≡ true → Sofar whole s p m i l q (in_line passed >>= λ t. line_end >> write (LD x.from t ds)) w l₁
+module _ {s : List ℕ} {p q : Parser} {m : Reader State (Unit {0})} {o n : Writer} (x : Lexeme) (ds : List ℕ) (so : Sofar whole s p m o q (some_data x ds) n) where
+  pub data_some : is_some ds ≡ true → Sofar whole s p m o q (in_line passed >>= λ t. line_end >> write (LD x.from t ds)) n
   unfolding some_data
   data_some e = becomes so (go ds e)
     where
@@ -216,15 +217,10 @@ module _ {s : List ℕ} {p q : Parser} {m : Reader State (Unit {0})} {i w : ℕ}
       go [] e = cc
       go (b ∷ bs) e = refl
 
-  pub data_none : is_some ds ≡ false → {r : Refusal} → r ≡ numbers_of (at_span 23 x.from x.to) → Denies whole s p m r
+  pub data_none : is_some ds ≡ false → {r : Refusal} → numbers r ≡ numbers_of (at_span 23 x.from x.to) → Denies whole s p m r
   unfolding some_data
   data_none e f = denied (becomes so (go ds e)) (refuses (at_span 23 x.from x.to) f)
     where
       go : (ds : List ℕ) → is_some ds ≡ false → some_data x ds (state_of s q) ≡ refuse (at_span 23 x.from x.to) (state_of s q)
       go [] e = refl
       go (b ∷ bs) e = cc
-
-pub wrote_data : (f t : ℕ) {i first w r : ℕ} (ds : List ℕ) {l l₁ l₂ : List ℕ} → (i ≤ first) × (i + 14 ≤ limit → first ≡ i + 14) → Wrote first ds l l₁ w → Wrote i (76 ∷ 68 ∷ fields (f ∷ t ∷ (w - first) ∷ [])) l₁ l₂ r
-    → Wrote i (encode (LD f t ds)) l l₂ w
-unfolding bytes field fields encode
-wrote_data f t ds h x y = headed (λ n. 76 ∷ 68 ∷ fields (f ∷ t ∷ n ∷ [])) ds (λ n. refl) h.0 h.1 x y

@@ -3,14 +3,17 @@
 use Rattle.std.specs.Prelude.{if◌then◌else◌}
 use Prim.Native.Nat.{ℕ, suc}
 use mathlib.Core.Path.{◌≡◌, refl, sym, ap, subst, ◌∙◌}
-use mathlib.Core.List.{List, [], map}
+use mathlib.Core.List.{List, map}
 use mathlib.Core.Bool.{Bool, true, false, ◌||◌}
 use mathlib.Core.Option.{Option, none, some}
 use lib.Dec.{eqb, ltb}
 use Rattle.lexer.specs.Text.{maybe, bytes, lower, same}
 use Rattle.names.specs.Names.{directives, place_from, named, operation_named, found_of, directive_from, directive_of}
-use Rattle.names.specs.declared.Found.{Found}
-use Rattle.names.specs.declared.Found.TheVariants as found
+use Rattle.std.specs.Prelude.{Option as Maybe, None, Some}
+use Rattle.lexer.specs.Scanned.{number_of as kind_number}
+use Rattle.records.specs.declared.Writer.{Writer}
+use Rattle.records.specs.Writers.{Puts}
+use Rattle.refusals.specs.Refusals.{numbers}
 use Rattle.names.specs.declared.Directive.{Directive}
 use Rattle.names.specs.declared.Directive.TheVariants as directive
 use Rattle.names.specs.Keys.{key_of, operation_by, directive_by, good_table}
@@ -23,24 +26,22 @@ use Rattle.rules.specs.Reader.{at as at_span, Reader, thence, ◌>>=◌, ◌>>�
 use Rattle.rules.specs.Expressions.{expression}
 use Rattle.rules.specs.Operands.{operands, is_word}
 use Rattle.rules.specs.Statements.{fitting, fits, State, over, in_line, line_end, skip_lines, passing, label, rep, repne, instruction, constant, data_of, line, content, times}
-use Rattle.records.specs.Writes.{Wrote}
 use Rattle.state.specs.declared.Parser.{Parser}
 use Rattle.refusals.specs.declared.Refusal.{Refusal}
-use Rattle.state.specs.Views.{kind_by, Plain, text_of, here_of, state_of, whole, Gives, Denies, Comes, line as inside}
-use Rattle.state.proofs.Chain.{after_nil, Sofar, starts, becomes, comes, called, called_denied, ends, lifts_comes, lifts_denied, denied, refuses, refuses_here, writes, returns, is_kind}
+use Rattle.state.specs.Views.{ends_line, kind_by, text_of, here_of, state_of, whole, Gives, Denies, Comes, line as inside}
+use Rattle.state.proofs.Chain.{after_nil, Sofar, starts, becomes, comes, called, called_denied, ends, first_denied, lifts_comes, lifts_denied, denied, refuses, refuses_here, writes, returns, is_kind}
 use Rattle.statements.proofs.Lines.{end_is}
-use Rattle.state.proofs.Flat.{by_kind, mark_is}
-use Rattle.state.proofs.Bytes.{text_bytes}
+use Rattle.state.proofs.Flat.{by_kind, mark_is, plain}
 
 -- past the word that a statement begins with
 module _ {s : List ℕ} {p : Parser} (m : Reader State (Unit {0})) where
-  pub past_word : (i : ℕ) (l : List ℕ) {q : Parser} → Comes inside s p next q tt → Sofar whole s p (passing m) i l q m i l
+  pub past_word : (o : Writer) {q : Parser} → Comes inside s p next q tt → Sofar whole s p (passing m) o q m o
   unfolding passing ◌>>◌
-  past_word i l h = comes (in_line next) (λ _. m) (starts whole s p (passing m) i l) (lifts_comes h)
+  past_word o h = comes (in_line next) (λ _. m) (starts whole s p (passing m) o) (lifts_comes h)
 
   pub word_denied : {r : Refusal} → Denies inside s p next r → Denies whole s p (passing m) r
   unfolding passing ◌>>◌
-  word_denied h = called_denied (in_line next) (λ _. m) (starts whole s p (passing m) 0 []) (lifts_denied h)
+  word_denied h = first_denied (λ _. m) (lifts_denied h)
 
 -- an instruction, whose word was x: `rep` and `repne`, and the others
 abbrev repeated : Lexeme → ℕ → Reader State (Unit {0})
@@ -49,55 +50,52 @@ repeated x op = in_line passed >>= λ t. write (LI x.from t op 0 t t)
 abbrev operated : Lexeme → ℕ → Reader State (Unit {0})
 operated x op = in_line operands >>= λ o. in_line passed >>= λ t. line_end >> write (LI x.from t op o.count o.from o.to)
 
-module _ {s : List ℕ} {p q : Parser} {m : Reader State (Unit {0})} {i w : ℕ} {l l₁ : List ℕ} (x : Lexeme) (op : ℕ) (so : Sofar whole s p m i l q (instruction x op) w l₁) where
-  pub repeats : (eqb op rep || eqb op repne) ≡ true → Sofar whole s p m i l q (repeated x op) w l₁
+module _ {s : List ℕ} {p q : Parser} {m : Reader State (Unit {0})} {o n : Writer} (x : Lexeme) (op : ℕ) (so : Sofar whole s p m o q (instruction x op) n) where
+  pub repeats : (eqb op rep || eqb op repne) ≡ true → Sofar whole s p m o q (repeated x op) n
   unfolding instruction
   repeats e = becomes so (rw e)
 
-  pub operates : (eqb op rep || eqb op repne) ≡ false → Sofar whole s p m i l q (operated x op) w l₁
+  pub operates : (eqb op rep || eqb op repne) ≡ false → Sofar whole s p m o q (operated x op) n
   unfolding instruction
   operates e = becomes so (rw e)
 
 -- a label, whose name was x
-colon : Plain ":"
-colon = record { word' = refl; number' = refl; closed' = refl; open' = refl; feed' = refl; end' = refl; stray' = refl; digit' = refl; large' = refl }
-
 module _ {s : List ℕ} (q : Parser) (x : Lexeme) where
-  asked : (i : ℕ) (l : List ℕ) → Sofar inside s q (label x) i l q ((if eqb q.kind 58 then next else (return tt)) >> write (LL x.from x.to)) i l
+  asked : (o : Writer) → Sofar inside s q (label x) o q ((if eqb (kind_number q.kind) 58 then next else (return tt)) >> write (LL x.from x.to)) o
   unfolding label
-  asked i l = becomes (comes kind _ (starts inside s q (label x) i l) is_kind) (rw (mark_is q.kind q.value (text_of s q.token_start q.pos) ":" colon))
+  asked o = becomes (comes kind _ (starts inside s q (label x) o) is_kind) (rw (mark_is (kind_number q.kind) q.value (text_of s q.token_start q.pos) ":" (plain ":" refl)))
 
-  chosen : (i : ℕ) (l : List ℕ) {b : Bool} → eqb q.kind 58 ≡ b → Sofar inside s q (label x) i l q ((if b then next else (return tt)) >> write (LL x.from x.to)) i l
-  chosen i l e = becomes (asked i l) (rw e)
+  chosen : (o : Writer) {b : Bool} → eqb (kind_number q.kind) 58 ≡ b → Sofar inside s q (label x) o q ((if b then next else (return tt)) >> write (LL x.from x.to)) o
+  chosen o e = becomes (asked o) (rw e)
 
-  module _ {i w : ℕ} {l l' : List ℕ} (h : Wrote i (encode (LL x.from x.to)) l l' w) where
-    pub label_colon : eqb q.kind 58 ≡ true → {q' : Parser} → Comes inside s q next q' tt → Gives inside s q (label x) i l l' q' w tt
+  module _ {o n : Writer} (h : Puts (encode (LL x.from x.to)) o n) where
+    pub label_colon : eqb (kind_number q.kind) 58 ≡ true → {q' : Parser} → Comes inside s q next q' tt → Gives inside s q (label x) o n q' tt
     unfolding ◌>>◌
-    label_colon e k = ends (comes _ _ (chosen i l e) k) (writes (LL x.from x.to) h)
+    label_colon e k = ends (comes _ _ (chosen o e) k) (writes (LL x.from x.to) h)
 
-    pub label_bare : eqb q.kind 58 ≡ false → Gives inside s q (label x) i l l' q w tt
+    pub label_bare : eqb (kind_number q.kind) 58 ≡ false → Gives inside s q (label x) o n q tt
     unfolding ◌>>◌
-    label_bare e = ends (comes _ _ (chosen i l e) (returns tt)) (writes (LL x.from x.to) h)
+    label_bare e = ends (comes _ _ (chosen o e) (returns tt)) (writes (LL x.from x.to) h)
 
-  pub label_denied : eqb q.kind 58 ≡ true → {r : Refusal} → Denies inside s q next r → Denies inside s q (label x) r
+  pub label_denied : Writer → eqb (kind_number q.kind) 58 ≡ true → {r : Refusal} → Denies inside s q next r → Denies inside s q (label x) r
   unfolding ◌>>◌
-  label_denied e k = called_denied _ _ (chosen 0 [] e) k
+  label_denied o e k = called_denied _ _ (chosen o e) k
 
 -- what a word names, from the code's answers
-pub found_some : (o : Option ℕ) (n : ℕ) → found_of o ≡ found.Operation n → o ≡ some n
+pub found_some : (o : Option ℕ) (n : ℕ) → found_of o ≡ Some n → o ≡ some n
 found_some none n e = cc
 found_some (some m) n e = cc
 
-pub found_none : (o : Option ℕ) → found_of o ≡ found.Nothing → o ≡ none
+pub found_none : (o : Option ℕ) → found_of o ≡ None → o ≡ none
 found_none none e = refl
 found_none (some m) e = cc
 
-abbrev pub directive_number : Directive → Option ℕ
-directive_number directive.Equ = some 0
-directive_number directive.Db = some 1
-directive_number directive.Dw = some 2
-directive_number directive.Times = some 3
-directive_number directive.Other = none
+abbrev pub directive_number : Maybe Directive → Option ℕ
+directive_number (Some directive.Equ) = some 0
+directive_number (Some directive.Db) = some 1
+directive_number (Some directive.Dw) = some 2
+directive_number (Some directive.Times) = some 3
+directive_number None = none
 
 pub directive_is : (w : List ℕ) → named directives w ≡ directive_number (directive_of w)
 unfolding named directives place_from
@@ -129,8 +127,8 @@ module _ (table s : List ℕ) (p : Parser) (t : Reader State (Unit {0})) where
   unfolding line ◌>>=◌ in_line over ahead thence
   line_is = after_nil _
 
-  module _ (e : p.kind ≡ 97) where
-    word_kind : kind_by p.kind p.value text ≡ word text
+  module _ (e : kind_number p.kind ≡ 97) where
+    word_kind : kind_by (kind_number p.kind) p.value text ≡ word text
     unfolding kind_by
     word_kind = rw e
 
@@ -139,74 +137,77 @@ module _ (table s : List ℕ) (p : Parser) (t : Reader State (Unit {0})) where
     line_word = line_is ∙ ap (λ (k : Kind). choice t (here_of s p) (operation_in table k) (name_in directives k) (is_word k) (state_of s p)) word_kind
 
     -- by the code's answers to the word's text w
-    module _ {w : List ℕ} (h : w ≡ text) {o : Found} (i : o ≡ found_of (operation_named table w)) where
-      line_operation : {op : ℕ} → o ≡ found.Operation op → line (fitting table) t (state_of s p) ≡ passing (instruction (here_of s p) op) (state_of s p)
-      line_operation {op} j = line_word ∙ ap (λ (f : Option ℕ). choice t (here_of s p) f (named directives text) true (state_of s p)) (found_some (operation_named table text) op (ap (λ (v : List ℕ). found_of (operation_named table v)) (sym h) ∙ sym i ∙ j))
+    module _ {w : List ℕ} (h : w ≡ text) where
+      line_operation : {op : ℕ} → Some op ≡ found_of (operation_named table w) → line (fitting table) t (state_of s p) ≡ passing (instruction (here_of s p) op) (state_of s p)
+      line_operation {op} j = line_word ∙ ap (λ (f : Option ℕ). choice t (here_of s p) f (named directives text) true (state_of s p)) (found_some (operation_named table text) op (ap (λ (v : List ℕ). found_of (operation_named table v)) (sym h) ∙ sym j))
 
-      line_directive : o ≡ found.Nothing → {d e : Directive} → d ≡ directive_of w → d ≡ e → line (fitting table) t (state_of s p) ≡ choice t (here_of s p) none (directive_number e) true (state_of s p)
-      line_directive j k q = line_word ∙ ap (λ (f : Option ℕ). choice t (here_of s p) f (named directives text) true (state_of s p)) (found_none (operation_named table text) (ap (λ (v : List ℕ). found_of (operation_named table v)) (sym h) ∙ sym i ∙ j))
-          ∙ ap (λ (f : Option ℕ). choice t (here_of s p) none f true (state_of s p)) (directive_is text ∙ ap directive_number (ap directive_of (sym h) ∙ sym k ∙ q))
+      line_directive : None ≡ found_of (operation_named table w) → {d : Maybe Directive} → d ≡ directive_of w → line (fitting table) t (state_of s p) ≡ choice t (here_of s p) none (directive_number d) true (state_of s p)
+      line_directive j k = line_word ∙ ap (λ (f : Option ℕ). choice t (here_of s p) f (named directives text) true (state_of s p)) (found_none (operation_named table text) (ap (λ (v : List ℕ). found_of (operation_named table v)) (sym h) ∙ sym j))
+          ∙ ap (λ (f : Option ℕ). choice t (here_of s p) none f true (state_of s p)) (directive_is text ∙ ap directive_number (ap directive_of (sym h) ∙ sym k))
 
-    -- by the answers to the key x of that text; a directive is asked for first, and is no operation
-    module _ (good : good_table table ≡ true) (small : Bytes s) {w : List ℕ} (h : w ≡ text) {x : ℕ} (i : x ≡ key_of (map lower w)) where
-      found_by : operation_by table x ≡ operation_named table w
-      found_by = operates_by table good w (text_bytes s small p.token_start p.pos h) i
+      -- by the answers to its key x; a directive is asked for first, and is no operation
+      module _ (good : good_table table ≡ true) (small : Bytes w) {x : ℕ} (i : x ≡ key_of (map lower w)) where
+        found_by : operation_by table x ≡ operation_named table w
+        found_by = operates_by table good w small i
 
-      directive_by_lem : directive_by x ≡ directive_of w
-      directive_by_lem = directs_by w (text_bytes s small p.token_start p.pos h) i
+        directive_by_lem : directive_by x ≡ directive_of w
+        directive_by_lem = directs_by w small i
 
-      pub key_operation : {o : Found} → o ≡ found_of (operation_by table x) → {op : ℕ} → o ≡ found.Operation op → line (fitting table) t (state_of s p) ≡ passing (instruction (here_of s p) op) (state_of s p)
-      key_operation k j = line_operation h (k ∙ ap found_of found_by) j
+        pub key_operation : {op : ℕ} → Some op ≡ found_of (operation_by table x) → line (fitting table) t (state_of s p) ≡ passing (instruction (here_of s p) op) (state_of s p)
+        key_operation j = line_operation (j ∙ ap found_of found_by)
 
-      pub key_directive : {d e : Directive} → d ≡ directive_by x → d ≡ e → Directs e → line (fitting table) t (state_of s p) ≡ choice t (here_of s p) none (directive_number e) true (state_of s p)
-      key_directive k q n = line_directive h (ap found_of (directive_apart table good x (subst Directs (sym q ∙ k) n) ∙ found_by)) refl (k ∙ directive_by_lem) q
+        pub key_directive : {d e : Directive} → Some d ≡ directive_by x → d ≡ e → line (fitting table) t (state_of s p) ≡ choice t (here_of s p) none (directive_number (Some e)) true (state_of s p)
+        key_directive k q = line_directive (ap found_of (directive_apart table good x (subst Directs k tt) ∙ found_by)) (ap (λ (d : Directive). Some d) (sym q) ∙ k ∙ directive_by_lem)
 
-      pub key_label : {o : Found} → o ≡ found_of (operation_by table x) → o ≡ found.Nothing → {d e : Directive} → d ≡ directive_by x → d ≡ e → line (fitting table) t (state_of s p) ≡ choice t (here_of s p) none (directive_number e) true (state_of s p)
-      key_label j n k q = line_directive h (j ∙ ap found_of found_by) n (k ∙ directive_by_lem) q
+        pub key_label : None ≡ found_of (operation_by table x) → None ≡ directive_by x → line (fitting table) t (state_of s p) ≡ choice t (here_of s p) none none true (state_of s p)
+        key_label j k = line_directive (j ∙ ap found_of found_by) (k ∙ directive_by_lem)
 
   -- a token that is no word is 20
   no_word : (k v : ℕ) (w : List ℕ) → eqb k 97 ≡ false → word_of (kind_by k v w) ≡ none
   unfolding word_of
   no_word k v w = by_kind (λ n x. eqb n 97 ≡ false → word_of x ≡ none) k v w (λ e. cc) (λ _. refl) (λ _. refl) (λ _. refl) (λ _. refl) (λ _. refl) (λ _. refl) (λ _. refl) (λ _. refl) (λ _ _ _ _ _. refl)
 
-  pub line_else : eqb p.kind 97 ≡ false → line (fitting table) t (state_of s p) ≡ in_line (refuse_here 20) (state_of s p)
+  pub line_else : eqb (kind_number p.kind) 97 ≡ false → line (fitting table) t (state_of s p) ≡ in_line (refuse_here 20) (state_of s p)
   unfolding operation_in name_in is_word
-  line_else e = line_is ∙ rw (no_word p.kind p.value text e)
+  line_else e = line_is ∙ rw (no_word (kind_number p.kind) p.value text e)
 
 -- `times`, where n more may stand within one another
 module _ (table s : List ℕ) (p : Parser) where
-  pub times_none : {n : ℕ} → n ≡ 0 → {r : Refusal} → r ≡ numbers_of (at_span 5 p.token_start p.pos) → Denies whole s p (times (fitting table) n) r
+  pub times_none : {n : ℕ} → n ≡ 0 → {r : Refusal} → numbers r ≡ numbers_of (at_span 5 p.token_start p.pos) → Denies whole s p (times (fitting table) n) r
   unfolding times
   times_none {n} e h = rw e (lifts_denied (refuses_here 5 h))
 
-  module _ {n k : ℕ} (e : n ≡ suc k) where
+  module _ {n k : ℕ} (e : n ≡ suc k) (o : Writer) where
     times_is : times (fitting table) n (state_of s p) ≡ passing (in_line expression >> (skip_lines >> content (fitting table) (times (fitting table) k) (here_of s p))) (state_of s p)
     unfolding times ◌>>=◌ in_line over ahead thence
     times_is = rw e (after_nil _)
 
-    pub times_past : (i : ℕ) (l : List ℕ) {q : Parser} → Comes inside s p next q tt → Sofar whole s p (times (fitting table) n) i l q (in_line expression >> (skip_lines >> content (fitting table) (times (fitting table) k) (here_of s p))) i l
+    begun : Sofar whole s p (times (fitting table) n) o p (passing (in_line expression >> (skip_lines >> content (fitting table) (times (fitting table) k) (here_of s p)))) o
+    begun = becomes (starts whole s p (times (fitting table) n) o) times_is
+
+    pub times_past : {q : Parser} → Comes inside s p next q tt → Sofar whole s p (times (fitting table) n) o q (in_line expression >> (skip_lines >> content (fitting table) (times (fitting table) k) (here_of s p))) o
     unfolding passing ◌>>◌
-    times_past i l h = comes (in_line next) (λ _. in_line expression >> (skip_lines >> content (fitting table) (times (fitting table) k) (here_of s p))) (becomes (starts whole s p (times (fitting table) n) i l) times_is) (lifts_comes h)
+    times_past h = comes (in_line next) (λ _. in_line expression >> (skip_lines >> content (fitting table) (times (fitting table) k) (here_of s p))) begun (lifts_comes h)
 
     pub times_denied : {r : Refusal} → Denies inside s p next r → Denies whole s p (times (fitting table) n) r
-    times_denied h = denied (becomes (starts whole s p (times (fitting table) n) 0 []) times_is) (word_denied _ h)
+    times_denied h = denied begun (word_denied _ h)
 
 -- the content of the `times` that was x
 module _ (table : List ℕ) (t : Reader State (Unit {0})) (x : Lexeme) {s : List ℕ} {p : Parser} where
-  content_by : {b : Bool} → (eqb p.kind 10 || eqb p.kind 0) ≡ b → (i : ℕ) (l : List ℕ)
-      → Sofar whole s p (content (fitting table) t x) i l p ((if b then (refuse (at_span 34 x.from x.to)) else (line (fitting table) t)) >> write LT) i l
+  content_by : {b : Bool} → ends_line p.kind ≡ b → (o : Writer)
+      → Sofar whole s p (content (fitting table) t x) o p ((if b then (refuse (at_span 34 x.from x.to)) else (line (fitting table) t)) >> write LT) o
   unfolding content
-  content_by e i l = becomes (comes (in_line kind) _ (starts whole s p (content (fitting table) t x) i l) (lifts_comes is_kind)) (rw (end_is s p ∙ e))
+  content_by e o = becomes (comes (in_line kind) _ (starts whole s p (content (fitting table) t x) o) (lifts_comes is_kind)) (rw (end_is s p ∙ e))
 
-  pub content_none : (eqb p.kind 10 || eqb p.kind 0) ≡ true → {r : Refusal} → r ≡ numbers_of (at_span 34 x.from x.to) → Denies whole s p (content (fitting table) t x) r
+  module _ (o : Writer) where
+    pub content_none : ends_line p.kind ≡ true → {r : Refusal} → numbers r ≡ numbers_of (at_span 34 x.from x.to) → Denies whole s p (content (fitting table) t x) r
+    unfolding ◌>>◌
+    content_none e h = called_denied _ _ (content_by e o) (refuses (at_span 34 x.from x.to) h)
+
+    pub content_denied : ends_line p.kind ≡ false → {r : Refusal} → Denies whole s p (line (fitting table) t) r → Denies whole s p (content (fitting table) t x) r
+    unfolding ◌>>◌
+    content_denied e h = called_denied _ _ (content_by e o) h
+
+  pub content_reads : ends_line p.kind ≡ false → {o n w : Writer} {q : Parser} → Gives whole s p (line (fitting table) t) o n q tt → Puts (encode LT) n w → Gives whole s p (content (fitting table) t x) o w q tt
   unfolding ◌>>◌
-  content_none e h = called_denied _ _ (content_by e 0 []) (refuses (at_span 34 x.from x.to) h)
-
-  module _ (e : (eqb p.kind 10 || eqb p.kind 0) ≡ false) where
-    pub content_denied : {r : Refusal} → Denies whole s p (line (fitting table) t) r → Denies whole s p (content (fitting table) t x) r
-    unfolding ◌>>◌
-    content_denied h = called_denied _ _ (content_by e 0 []) h
-
-    pub content_reads : {i w n : ℕ} {l l₁ l₂ : List ℕ} {q : Parser} → Gives whole s p (line (fitting table) t) i l l₁ q w tt → Wrote w (encode LT) l₁ l₂ n → Gives whole s p (content (fitting table) t x) i l l₂ q n tt
-    unfolding ◌>>◌
-    content_reads h k = ends (called _ _ (content_by e _ _) h) (writes LT k)
+  content_reads e h k = ends (called _ _ (content_by e _) h) (writes LT k)

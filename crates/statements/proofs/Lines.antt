@@ -4,29 +4,71 @@ use Rattle.std.specs.Prelude.{if◌then◌else◌}
 use Prim.Native.Nat.{ℕ, suc, ◌+◌, ◌≤◌, ◌<◌}
 use mathlib.Core.Path.{◌≡◌, refl, sym, ap, subst, ◌∙◌}
 use mathlib.Core.List.{List, [], ◌∷◌}
-use mathlib.Core.Bool.{Bool, true, false, true≢false, ◌||◌}
+use mathlib.Core.Bool.{Bool, true, false, not, ◌||◌}
+use Rattle.std.proofs.lemmas.Bool.{not-false, not-true}
 use mathlib.Core.Option.{Option, none, some}
 use native.Mathlib.Omega.{arith}
-use borrow.Author.Tests.{eqb-true}
+use borrow.Author.Tests.{eqb-true, eq-eqb, ne_eqb}
+use Rattle.std.specs.Prelude.{IsErrAnd}
+use Rattle.std.proofs.lemmas.Result.{err_from_is_err_and}
+use Rattle.lexer.proofs.Branches.{or_split}
+use Rattle.lexer.specs.declared.Kind.{Kind}
+use Rattle.lexer.specs.contracts.Kind.{the_type}
+use denote.Enum.Bare.{sameb, same_true, same_false}
+use borrow.Author.Rules.{rules}
+use Rattle.state.proofs.ByNumber.{number_tells}
+use Rattle.state.proofs.Steps.{one_less}
 use lib.Dec.{eqb}
 use lib.ListN.{length, drop}
 use Rattle.lexer.specs.Text.{maybe}
 use Rattle.lexer.specs.Tokens.{token_at}
 use Rattle.rules.specs.Lexemes.{Lexeme}
-use Rattle.rules.specs.Reader.{Cause, at as at_span, Answer, done, refused, Reader, Line, thence, refused_as, arrive, step, next, kind, refuse_here, is_line_end, numbers_of, ◌>>=◌}
+use Rattle.rules.specs.Reader.{Cause, at as at_span, Answer, done, refused, Reader, Line, thence, refused_as, arrive, next, kind, refuse_here, is_line_end, numbers_of, ◌>>=◌}
 use Rattle.rules.specs.Statements.{Row, State, rows, over, in_line, first_of, enter, step_row, next_row, line_end, skip, skip_lines}
 use Rattle.rules.proofs.Lexemes.{ended_cons, Ended as Finished}
 use Rattle.rules.proofs.Rows.{rows_some}
-use Rattle.rules.proofs.Progress.{Ended, AllEnded, total, size, Below}
+use Rattle.rules.proofs.Progress.{AllEnded, total, size, Below}
 use Rattle.rules.proofs.Cut.{tokens_finished, tokens_count, rows_total, rows_all}
 use Rattle.state.specs.declared.Parser.{Parser}
-use Rattle.state.specs.declared.Step.{Step}
-use Rattle.state.specs.declared.Step.TheVariants.{Ahead, Stopped}
-use Rattle.state.specs.Views.{text_of, here_of, behind, more_of, below_of, state_of, line_of, rows_of, line, whole, Comes, Passes, PassesAs}
+use Rattle.std.specs.Prelude.{Result, Ok, Err}
+use Rattle.lexer.specs.declared.Kind.TheVariants as kind_ahead
+use Rattle.lexer.specs.Scanned.{number_of as kind_number}
+use Rattle.refusals.specs.declared.Refusal.{Refusal}
+use Rattle.refusals.specs.Refusals.{numbers}
+use Rattle.state.specs.Views.{ends_line, text_of, here_of, behind, more_of, below_of, state_of, line_of, rows_of, line, whole, Comes, Passes, PassesAs}
 use Rattle.statements.specs.Statements.{begin, Starts, StartsAs}
 use Rattle.state.proofs.Chain.{after_nil, passes_by}
 use Rattle.state.proofs.Flat.{line_end_is, kind_end, other_byte}
 use Rattle.state.proofs.Stream.{From, rows_first}
+
+-- what the exit of a `?` returns
+pub exits : {T : Type 0} {x : Refusal} {r : Result T Refusal} → IsErrAnd r (λ y. y ≡ x) → r ≡ Err x
+exits {r = r} h = let e = err_from_is_err_and r h in e.1 ∙ ap (λ y. Err y) e.2
+
+-- the token ahead by its kind
+pub is_of : {k n : Kind} → k ≡ n → eqb (kind_number k) (kind_number n) ≡ true
+is_of e = eq-eqb _ _ (ap kind_number e)
+
+pub is_other_than : {k n : Kind} → (k ≡ n → ⊥) → eqb (kind_number k) (kind_number n) ≡ false
+is_other_than h = ne_eqb _ _ (λ e. h (number_tells e))
+
+-- and by a derived comparison
+pub same_kind : (n k : Kind) → true ≡ sameb the_type k n → kind_number k ≡ kind_number n
+same_kind n k e = ap kind_number (same_true the_type (search rules) k n (sym e))
+
+pub other_kind : (n k : Kind) → false ≡ sameb the_type k n → eqb (kind_number k) (kind_number n) ≡ false
+other_kind n k e = ne_eqb _ _ (λ h. same_false the_type k n (sym e) (number_tells h))
+
+-- by `!=`
+pub same_by_ne : (n k : Kind) → false ≡ not (sameb the_type k n) → kind_number k ≡ kind_number n
+same_by_ne n k e = same_kind n k (sym (not-false _ (sym e)))
+
+pub other_by_ne : (n k : Kind) → true ≡ not (sameb the_type k n) → eqb (kind_number k) (kind_number n) ≡ false
+other_by_ne n k e = other_kind n k (sym (not-true _ (sym e)))
+
+-- within a line
+pub inside_falls : {s : List ℕ} {p q : Parser} → ends_line p.kind ≡ false → Comes line s p next q tt → length (line_of s p).more ≡ suc (length (line_of s q).more)
+inside_falls {s} {p} e h = let f = or_split _ _ e in one_less s p f.0 f.1 h
 
 -- what arrived was not refused
 arrived : {S : Type 0} (x : Lexeme) (p : Answer S (Unit {0})) {t : S} → arrive x p ≡ done [] tt t → p ≡ done [] tt t
@@ -45,15 +87,6 @@ arrive_then x t m = go (refused_as x.kind)
     go : (o : Option ℕ) → maybe o (m t) (λ n. refused (at_span n x.from x.to)) ≡ thence {A = Unit {0}} (maybe o (done [] tt t) (λ n. refused (at_span n x.from x.to))) (λ _. m)
     go none = sym (after_nil _)
     go (some n) = refl
-
--- In a line that has an end, a token that is not its end has another behind it.
-inside_more : (a : ℕ) (x : Lexeme) (ys : List Lexeme) → Ended x ys → is_line_end x.kind ≡ false → (l : Line) → next (record { last = a; here = x; more = ys }) ≡ done [] tt l → length ys ≡ suc (length l.more)
-unfolding next step
-inside_more a x [] h i l e = absurd (true≢false (sym h ∙ i))
-inside_more a x (y ∷ ys) h i l e =
-    let f = arrived y (done [] tt (record { last = x.to; here = y; more = ys })) e in
-    let g : record { last = x.to; here = y; more = ys } ≡ l = cc in
-    ap (λ (k : Line). suc (length k.more)) g
 
 -- From a line's end with a line below it.
 skip_row : (l : Line) (r : Row) (rs : List Row) → is_line_end l.here.kind ≡ true → skip l (r ∷ rs) ≡ thence {A = Unit {0}} (arrive r.first (done [] tt (enter r rs))) (λ _. skip_lines)
@@ -108,27 +141,27 @@ module _ (s : List ℕ) (p : Parser) where
   x = here_of s p
 
   abbrev xs : List Lexeme
-  xs = behind s p.kind p.pos
+  xs = behind s (kind_number p.kind) p.pos
 
-  pub end_is : is_line_end x.kind ≡ (eqb p.kind 10 || eqb p.kind 0)
-  end_is = line_end_is p.kind p.value (text_of s p.token_start p.pos)
+  pub end_is : is_line_end x.kind ≡ (eqb (kind_number p.kind) 10 || eqb (kind_number p.kind) 0)
+  end_is = line_end_is (kind_number p.kind) p.value (text_of s p.token_start p.pos)
 
-  at_feed : eqb p.kind 10 ≡ true → is_line_end x.kind ≡ true
+  at_feed : eqb (kind_number p.kind) 10 ≡ true → is_line_end x.kind ≡ true
   at_feed e = end_is ∙ rw e
 
-  at_end : eqb p.kind 0 ≡ true → is_line_end x.kind ≡ true
+  at_end : eqb (kind_number p.kind) 0 ≡ true → is_line_end x.kind ≡ true
   unfolding is_line_end
-  at_end e = rw (eqb-true p.kind 0 e, kind_end)
+  at_end e = rw (eqb-true (kind_number p.kind) 0 e, kind_end)
 
-  pub inside : eqb p.kind 10 ≡ false → eqb p.kind 0 ≡ false → is_line_end x.kind ≡ false
+  pub inside : eqb (kind_number p.kind) 10 ≡ false → eqb (kind_number p.kind) 0 ≡ false → is_line_end x.kind ≡ false
   inside e f = end_is ∙ rw (e, f)
 
   -- the tokens that are left end a line
   finished : Finished (x ∷ xs)
   unfolding behind
-  finished = go (eqb p.kind 0) refl
+  finished = go (eqb (kind_number p.kind) 0) refl
     where
-      go : (b : Bool) → eqb p.kind 0 ≡ b → Finished (x ∷ (if b then [] else From s p.pos))
+      go : (b : Bool) → eqb (kind_number p.kind) 0 ≡ b → Finished (x ∷ (if b then [] else From s p.pos))
       go true e = at_end e
       go false e = ended_cons x (From s p.pos) (tokens_finished token_at p.pos 0 (drop p.pos s))
 
@@ -142,15 +175,11 @@ module _ (s : List ℕ) (p : Parser) where
   pub view_below : (n : ℕ) → size (state_of s p) ≤ n → Below n (state_of s p)
   view_below n h = record { few = h; ended = ended.0; others = ended.1 }
 
-  -- within a line
-  pub inside_falls : is_line_end x.kind ≡ false → (q : Parser) → Comes line s p next q tt → length (line_of s p).more ≡ suc (length (line_of s q).more)
-  inside_falls e q h = inside_more p.last_token_end x (more_of x xs) ended.0 e (line_of s q) h.reads
-
   -- behind a line feed there is a line
-  module _ (e : eqb p.kind 10 ≡ true) where
+  module _ (e : eqb (kind_number p.kind) 10 ≡ true) where
     below_is : rows_of s p ≡ rows (From s p.pos)
     unfolding behind below_of rows
-    below_is = rw (other_byte p.kind 10 0 e refl, at_feed e)
+    below_is = rw (other_byte (kind_number p.kind) 10 0 e refl, at_feed e)
 
     below_some : (r : Row) × (rs : List Row) × (rows_of s p ≡ r ∷ rs)
     below_some =
@@ -171,15 +200,15 @@ module _ (s : List ℕ) (p : Parser) where
     pub feed_denied : {c : Cause} → next_row (state_of s p) ≡ refused c → skip_lines (state_of s p) ≡ refused c
     feed_denied h = row_denied (state_of s p) below_some.2 (at_feed e) h
 
-  none_below : eqb p.kind 0 ≡ true → rows_of s p ≡ []
+  none_below : eqb (kind_number p.kind) 0 ≡ true → rows_of s p ≡ []
   unfolding behind below_of rows
   none_below e = rw (e, at_end e)
 
   -- elsewhere nothing is skipped
-  pub skip_stays : eqb p.kind 10 ≡ false → skip_lines (state_of s p) ≡ done [] tt (state_of s p)
-  skip_stays e = go (eqb p.kind 0) refl
+  pub skip_stays : eqb (kind_number p.kind) 10 ≡ false → skip_lines (state_of s p) ≡ done [] tt (state_of s p)
+  skip_stays e = go (eqb (kind_number p.kind) 0) refl
     where
-      go : (b : Bool) → eqb p.kind 0 ≡ b → skip_lines (state_of s p) ≡ done [] tt (state_of s p)
+      go : (b : Bool) → eqb (kind_number p.kind) 0 ≡ b → skip_lines (state_of s p) ≡ done [] tt (state_of s p)
       go true f = skips_none (state_of s p) (none_below f)
       go false f = skips_inside (state_of s p) (inside e f)
 
@@ -188,21 +217,22 @@ module _ (s : List ℕ) (p : Parser) where
   unfolding line_end ◌>>=◌ in_line over kind thence
   line_end_by = after_nil _
 
-  pub to_next : eqb p.kind 10 ≡ true → {r : Step} → Passes whole s p next_row r → Passes whole s p line_end r
+  pub to_next : eqb (kind_number p.kind) 10 ≡ true → {r : Result Parser Refusal} → Passes whole s p next_row r → Passes whole s p line_end r
   to_next e h = passes_by (line_end_by ∙ rw (at_feed e)) h
 
-  pub stays : eqb p.kind 0 ≡ true → Passes whole s p line_end (Ahead p)
+  pub stays : eqb (kind_number p.kind) 0 ≡ true → Passes whole s p line_end (Ok p)
   unfolding next_row step_row
   stays e = record { so = record { reads = line_end_by ∙ rw (at_end e, none_below e); kept = tt } }
 
-  pub not_ended : eqb p.kind 10 ≡ false → eqb p.kind 0 ≡ false → Passes whole s p line_end (Stopped (numbers_of (at_span 10 p.token_start p.pos)))
+  pub not_ended : eqb (kind_number p.kind) 10 ≡ false → eqb (kind_number p.kind) 0 ≡ false → {r : Refusal} → numbers r ≡ numbers_of (at_span 10 p.token_start p.pos)
+      → Passes whole s p line_end (Err r)
   unfolding in_line over refuse_here
-  not_ended e f = record { so = record { cause = at_span 10 p.token_start p.pos; reads = line_end_by ∙ rw (inside e f); numbers = refl } }
+  not_ended e f h = record { so = record { cause = at_span 10 p.token_start p.pos; reads = line_end_by ∙ rw (inside e f); by_numbers = h } }
 
 -- THE START: from a line feed that stands before the place.
 module _ (s : List ℕ) (place : ℕ) where
   abbrev before : Parser
-  before = record { pos = place; token_start = place; last_token_end = place; kind = 10; value = 0 }
+  before = record { pos = place; token_start = place; last_token_end = place; kind = kind_ahead.NewLine; value = 0 }
 
   begin_is : next_row (state_of s before) ≡ begin (rows (From s place))
   unfolding begin
@@ -210,7 +240,7 @@ module _ (s : List ℕ) (place : ℕ) where
       let (r, rs, e) = below_some s before refl in
       row_is (state_of s before) e ∙ sym (ap begin (sym (below_is s before refl) ∙ e))
 
-  few_left : (q : Parser) → Comes whole s before next_row q tt → length (behind s q.kind q.pos) ≤ length (drop place s)
+  few_left : (q : Parser) → Comes whole s before next_row q tt → length (behind s (kind_number q.kind) q.pos) ≤ length (drop place s)
   unfolding behind
   few_left q h =
       let a : size (state_of s q) < size (state_of s before) = feed_falls s before refl h in
@@ -219,9 +249,9 @@ module _ (s : List ℕ) (place : ℕ) where
       let d : length (behind s 10 place) ≤ suc (length (drop place s)) = tokens_count token_at place 0 (drop place s) in
       omega arith
 
-  pub begins : {r : Step} → Passes whole s before next_row r → Starts s place r
+  pub begins : {r : Result Parser Refusal} → Passes whole s before next_row r → Starts s place r
   begins {r} h = record { so = go r h.so }
     where
-      go : (r : Step) → PassesAs whole s before next_row r → StartsAs s place r
-      go (Ahead q) h = record { reads = sym begin_is ∙ h.reads; few = few_left q h }
-      go (Stopped r) h = record { cause = h.cause; reads = sym begin_is ∙ h.reads; numbers = h.numbers }
+      go : (r : Result Parser Refusal) → PassesAs whole s before next_row r → StartsAs s place r
+      go (Ok q) h = record { reads = sym begin_is ∙ h.reads; few = few_left q h }
+      go (Err r) h = record { cause = h.cause; reads = sym begin_is ∙ h.reads; by_numbers = h.by_numbers }

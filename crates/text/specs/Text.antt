@@ -3,6 +3,7 @@ use Rattle.std.specs.Prelude.{◌≡◌, List, [], ◌∷◌, ◌++◌, ℕ, zer
 use Prim.Native.Char.{code}
 use Rattle.std.proofs.lemmas.List.Edits.{sets}
 use Rattle.lexer.specs.Text.{bytes}
+use Rattle.text.specs.declared.Text.{Text}
 
 -- The decimal digits of a number that has at most k of them.
 unfoldable pub decimal_in : ℕ → ℕ → List ℕ
@@ -27,10 +28,12 @@ numbers (n ∷ ns) = bytes " " ++ decimal n ++ numbers ns
 unfoldable pub stores : List ℕ → ℕ → List ℕ → List ℕ
 stores l at bs = sets l at bs
 
--- The text bs is written to the buffer l from a place on, as far as there is room; the buffer is l' then, and r is the place behind the text.
-pub record Put (at : ℕ) (bs l l' : List ℕ) (r : ℕ) : Type 0 where
-  pub text : l' ≡ stores l at bs
-  pub place : r ≡ max at (min (at + length bs) (length l))
+-- The text bs is written to a writer's buffer from its place on, as far as there is room, and the place is behind the text then. The buffer
+-- is the same one, so that its owner has what was written.
+pub record Put (bs : List ℕ) (old new : Text) : Type 0 where
+  pub text : new.out.now ≡ stores old.out.now old.at bs
+  pub place : new.at ≡ max old.at (min (old.at + length bs) (length old.out.now))
+  pub buffer : new.out.ghost_name ≡ old.out.ghost_name
 
 unfoldable pub open_text : Unit {0}
 unfolding bytes decimal_in decimal signed numbers

@@ -1,67 +1,67 @@
-// Text in a lent buffer. Each function gives the place behind what it wrote; text is cut off where the buffer ends.
+// Text in a lent buffer, one run behind the other; it is cut off where the buffer ends.
 #![tactic(auto)]
 
 ghost use Rattle.std.specs.Prelude.{[], ◌∷◌};
 ghost use Rattle.text.specs.Text.{decimal, signed, numbers, Put};
 
-pub fn put(out: &mut [u8], at: usize, b: u8) -> usize
-    ensures { Put at (b ∷ []) out.old out.new result }
-{
-    if at < out.len() {
-        out[at] = b;
-        return at + 1;
+// A buffer, and the place behind what was put.
+#[derive(Drop)]
+pub struct Text<'a> {
+    pub out: &'a mut [u8],
+    pub at: usize,
+}
+
+impl<'a> Text<'a> {
+    pub fn put(&mut self, b: u8)
+        ensures { Put (b ∷ []) self.old self.new }
+    {
+        if self.at < self.out.len() {
+            self.out[self.at] = b;
+            self.at += 1;
+        }
     }
-    at
-}
 
-pub fn put_all(out: &mut [u8], at: usize, text: &[u8]) -> usize
-    ensures { Put at text.now out.old out.new result }
-{
-    let mut to = at;
-    let mut i = 0;
-    while i < text.len() {
-        to = put(out, to, text[i]);
-        i += 1;
+    pub fn put_all(&mut self, text: &[u8])
+        ensures { Put text.now self.old self.new }
+    {
+        for b in text {
+            self.put(*b);
+        }
     }
-    to
-}
 
-fn put_decimal(out: &mut [u8], at: usize, n: u64) -> usize
-    ensures { Put at (decimal n) out.old out.new result }
-{
-    let mut digits = [0u8; 20];
-    let k = io::decimal(n, &mut digits);
-    put_all(out, at, &digits[..k])
-}
-
-// A number of 32 bits, of which the highest is the sign's.
-pub fn put_signed(out: &mut [u8], at: usize, v: u32) -> usize
-    ensures { Put at (signed v) out.old out.new result }
-{
-    if v < 2147483648 {
-        return put_decimal(out, at, v as u64);
+    fn put_decimal(&mut self, n: u64)
+        ensures { Put (decimal n) self.old self.new }
+    {
+        let mut digits = [0u8; 20];
+        let k = io::decimal(n, &mut digits);
+        self.put_all(&digits[..k]);
     }
-    let to = put(out, at, b'-');
-    put_decimal(out, to, 4294967296 - v as u64)
-}
 
-// A blank and a number.
-pub fn put_number(out: &mut [u8], at: usize, n: u64) -> usize
-    ensures { Put at (numbers (n ∷ [])) out.old out.new result }
-{
-    let to = put(out, at, b' ');
-    put_decimal(out, to, n)
-}
-
-// Each byte as a number.
-pub fn put_numbers(out: &mut [u8], at: usize, data: &[u8]) -> usize
-    ensures { Put at (numbers «data».now) out.old out.new result }
-{
-    let mut to = at;
-    let mut i = 0;
-    while i < data.len() {
-        to = put_number(out, to, data[i] as u64);
-        i += 1;
+    // A number of 32 bits, of which the highest is the sign's.
+    pub fn put_signed(&mut self, v: u32)
+        ensures { Put (signed v) self.old self.new }
+    {
+        let v = i64::from(v.cast_signed());
+        if v < 0 {
+            self.put(b'-');
+        }
+        self.put_decimal(v.unsigned_abs());
     }
-    to
+
+    // A blank and a number.
+    pub fn put_number(&mut self, n: u64)
+        ensures { Put (numbers (n ∷ [])) self.old self.new }
+    {
+        self.put(b' ');
+        self.put_decimal(n);
+    }
+
+    // Each byte as a number.
+    pub fn put_numbers(&mut self, data: &[u8])
+        ensures { Put (numbers «data».now) self.old self.new }
+    {
+        for b in data {
+            self.put_number(u64::from(*b));
+        }
+    }
 }

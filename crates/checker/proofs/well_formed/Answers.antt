@@ -15,9 +15,9 @@ pub returns-in_default : goal.returns-in_default
 returns-in_default c = stands_bad c.loop-at.invariant c.loop-at-test.true (sym c.check_at.ensures ∙ ap passed_of c.in_default.is)
 
 -- the invariant behind the record
-again : (c : goal.In-Record) →
-    Stands c.args.listing.now c.args.length (stack_of c.in-Record.next) (c.loop-at.at + c.in-Record.size) × (6 ≤ c.in-Record.size)
-again c = stands_again c.loop-at.invariant c.loop-at-test.true (sym c.check_at.ensures ∙ ap passed_of c.in-Record.is)
+again : (c : goal.In-Some) →
+    Stands c.args.listing.now c.args.length (stack_of c.in-Some.next) (c.loop-at.at + c.in-Some.size) × (6 ≤ c.in-Some.size)
+again c = stands_again c.loop-at.invariant c.loop-at-test.true (sym c.check_at.ensures ∙ ap passed_of c.in-Some.is)
 
 pub overflow_add-at : goal.overflow_add-at
 overflow_add-at c = omega (arith, (again c).0.within)

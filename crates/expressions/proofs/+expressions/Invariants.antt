@@ -24,9 +24,10 @@ decreases-primary l = l.deeper + l.deeper + l.deeper + 2
 
 abbrev pub invariant-infixes-loop-op : goal.invariant-infixes-loop-op
 invariant-infixes-loop-op l =
+    let s = l.source.text.now in
     (n : ℕ)
-    × (length (line_of l.src l.q).more ≤ n)
-    × Sofar line l.src l.initial.q (infixes (length (line_of l.src l.initial.q).more) (expr l.deeper) l.level l.from) l.initial.w l.initial.out l.q (infixes n (expr l.deeper) l.level l.from) l.w l.out
+    × (length (line_of s l.left).more ≤ n)
+    × Sofar line s l.initial.left (infixes (length (line_of s l.initial.left).more) (expr l.deeper) l.level l.from) l.initial.out l.left (infixes n (expr l.deeper) l.level l.from) l.out
 
 abbrev pub decreases-infixes-loop-op : goal.decreases-infixes-loop-op
-decreases-infixes-loop-op l = length (line_of l.src l.q).more
+decreases-infixes-loop-op l = length (line_of l.source.text.now l.left).more

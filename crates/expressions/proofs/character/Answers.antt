@@ -1,22 +1,19 @@
 -- The text with its quotes has three bytes exactly where one character stands between them.
 -- Assumes nothing.
-use mathlib.Core.Path.{ap}
-use Prim.Native.Nat.{ℕ}
+use borrow.Author.Rules.{rules}
+use mathlib.Core.Path.{◌≡◌}
 use native.Mathlib.Omega.{arith}
-use lib.Dec.{eqb}
-use mathlib.Core.List.{[]}
+use lib.ListN.{length}
 use Rattle.state.proofs.Chain.{denied, hands_on, refuses_here, reads_refused}
 use Rattle.expressions.proofs.Reading.{atom_character, atom_text}
 use Rattle.expressions.proofs.character.Goals as goal
 
-pub overflow_cast-word : goal.overflow_cast-word
-overflow_cast-word c = omega (arith, c.shared_slice_known-then-word-eq3-1.given 1)
+pub returns-in-len3 : goal.returns-in-len3
+returns-in-len3 c =
+    let three : length c.text.result.now ≡ 3 = omega (arith, c.in-len3.len_at_least, c.in-len3.len_below) in
+    hands_on (atom_character _ _ _ c.requires (rw c.text.ensures at three)) (rw c.text.ensures at c.value.ensures)
 
-pub value-requires : goal.value-requires
-value-requires c = (c.requires.0, (ap (λ (k : ℕ). eqb k 10) c.requires.1, ap (λ (k : ℕ). eqb k 0) c.requires.1))
-
-pub returns-then-word-eq3 : goal.returns-then-word-eq3
-returns-then-word-eq3 c = hands_on (atom_character _ _ _ _ c.requires.1 (rw c.text-word.ensures at c.if-word-eq3.true)) (rw c.text-word.ensures at c.value.ensures)
-
-pub returns : goal.returns
-returns c = reads_refused (denied (atom_text _ _ 0 [] c.requires.1 (rw c.text-word.ensures at c.if-word-eq3.false)) (refuses_here 17 c.refuse_here.ensures))
+pub returns-in_default : goal.returns-in_default
+returns-in_default c =
+    let other : length c.text.result.now ≡ 3 → ⊥ = search rules in
+    reads_refused (denied (atom_text _ _ c.args.out.now c.requires (rw c.text.ensures at other)) (refuses_here 17 c.refuse_here.ensures))

@@ -1,15 +1,14 @@
 -- A line begins at 0 and behind a line feed.
 -- Assumes nothing.
-use mathlib.Core.Path.{sym}
+use mathlib.Core.Path.{refl, sym, ◌∙◌}
 use native.Mathlib.Omega.{arith}
-use Rattle.lines.proofs.Laws.{begins_first, begins_beyond, begins_behind}
+use borrow.Author.Tests.{eq-eqb}
+use Rattle.lines.proofs.Laws.{begins_first}
+use Rattle.lines.proofs.Searches.{begins_got}
 use Rattle.lines.proofs.begins_line.Goals as goal
 
 pub returns-then-place-eq0 : goal.returns-then-place-eq0
-returns-then-place-eq0 c = sym (begins_first _ _ (omega (arith, c.if-place-eq0.true)))
+returns-then-place-eq0 c = eq-eqb _ _ c.if-place-eq0.true ∙ sym (begins_first _ _ (omega (arith, c.if-place-eq0.true)))
 
-pub returns-then-source-place : goal.returns-then-source-place
-returns-then-source-place c = begins_beyond _ _ c.if-place-eq0.false c.if-source-place.true
-
-pub returns : goal.returns
-returns c = begins_behind _ _ c.if-place-eq0.false c.if-source-place.false
+pub returns-else-place-eq0 : goal.returns-else-place-eq0
+returns-else-place-eq0 c = c.eq.ensures ∙ begins_got _ _ c.get.result _ c.if-place-eq0.false refl c.get.ensures.lookup.3

@@ -4,5 +4,4 @@ use Rattle.names.proofs.Names.{directs_by}
 use Rattle.names.proofs.directive_of.Goals as goal
 
 pub returns : goal.returns
-returns c =
-    c.directive_by.ensures ∙ directs_by c.args.word.now c.shared_slice_known-1.given c.word_key-key.ensures.0
+returns c = c.directive_by.ensures ∙ directs_by c.args.word.now c.type_inv.word c.word_key.ensures.0

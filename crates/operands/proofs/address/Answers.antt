@@ -1,18 +1,17 @@
 -- The four parts of an address, one after the other.
 -- Assumes nothing.
-use mathlib.Core.Path.{subst}
-use Rattle.operands.specs.Answers.{Looks, ReadsRegisters, Displaces}
-use Rattle.state.proofs.Chain.{starts, called, comes, hands_on, reads_refused, then_denied, first_denied}
+use Rattle.state.proofs.Chain.{starts, called, comes, hands_on, then_denied, first_denied}
+use Rattle.expressions.proofs.Reading.{reads_handed}
 use Rattle.operands.proofs.address.Goals as goal
 
-pub returns-in-Stopped : goal.returns-in-Stopped
-returns-in-Stopped c = reads_refused (first_denied _ (subst (Looks _ _ _) c.in-Stopped.is c.segment_override.ensures).so)
+pub returns-in_err-q : goal.returns-in_err-q
+returns-in_err-q c = reads_handed _ c.from_residual.ensures.1 (first_denied _ c.in_err-q.ensures.so)
 
-pub returns-in-Stopped-registers_ahead : goal.returns-in-Stopped-registers_ahead
-returns-in-Stopped-registers_ahead c = reads_refused (then_denied _ (subst (Looks _ _ _) c.in-Found.is c.segment_override.ensures).so (first_denied _ (subst (ReadsRegisters _ _ _) c.in-Stopped-registers_ahead.is c.registers_ahead.ensures).so))
+pub returns-in_err-after : goal.returns-in_err-after
+returns-in_err-after c = reads_handed _ c.from_residual-in_err-after.ensures.1 (then_denied _ c.in_ok-q.ensures.so (first_denied _ c.in_err-after.ensures.so))
 
-pub returns-in-Refused : goal.returns-in-Refused
-returns-in-Refused c = reads_refused (then_denied _ (subst (Looks _ _ _) c.in-Found.is c.segment_override.ensures).so (then_denied _ (subst (ReadsRegisters _ _ _) c.in-Ahead.is c.registers_ahead.ensures).so (first_denied _ (subst (Displaces _ _ _ _ _ _) c.in-Refused.is c.displacement.ensures).so)))
+pub returns-in_err-end : goal.returns-in_err-end
+returns-in_err-end c = reads_handed _ c.from_residual-in_err-end.ensures.1 (then_denied _ c.in_ok-q.ensures.so (then_denied _ c.in_ok-after.ensures.so (first_denied _ c.in_err-end.ensures.so)))
 
-pub returns-in-Done : goal.returns-in-Done
-returns-in-Done c = hands_on (called _ _ (comes _ _ (comes _ _ (starts _ _ _ _ _ _) (subst (Looks _ _ _) c.in-Found.is c.segment_override.ensures).so) (subst (ReadsRegisters _ _ _) c.in-Ahead.is c.registers_ahead.ensures).so) (subst (Displaces _ _ _ _ _ _) c.in-Done.is c.displacement.ensures).so) c.close.ensures
+pub returns : goal.returns
+returns c = hands_on (called _ _ (comes _ _ (comes _ _ (starts _ _ _ _ _) c.in_ok-q.ensures.so) c.in_ok-after.ensures.so) c.in_ok-end.ensures.so) c.close.ensures

@@ -1,22 +1,22 @@
 -- Nothing before the closing bracket, else an expression.
 -- Assumes nothing.
 use Rattle.rules.specs.Reader.{◌>>◌}
-use mathlib.Core.Path.{refl, subst}
+use mathlib.Core.Path.{refl}
+use Rattle.lexer.specs.declared.Kind.TheVariants as kind
 use Rattle.rules.specs.Operands.{displacement}
-use Rattle.state.specs.Views.{Reads}
-use Rattle.state.proofs.Chain.{starts, still, lands, ends, called, comes, returns as gives, is_kind, then_comes, then_denied, first_denied}
-use Rattle.state.proofs.Flat.{plain, mark_ahead, other_ahead}
-use Rattle.operands.proofs.Laws.{outermost}
+use Rattle.state.proofs.Chain.{starts, still, lands, ends, called, comes, reads_with, returns as gives, is_kind, then_comes, then_denied, first_denied}
+use Rattle.state.proofs.Flat.{plain}
+use Rattle.operands.proofs.Laws.{outermost, mark_there, other_there, with_handed}
 use Rattle.operands.proofs.displacement.Goals as goal
 
-pub returns-then-p-eq-CLOSING_BRACKET : goal.returns-then-p-eq-CLOSING_BRACKET
+pub returns-then-eq : goal.returns-then-eq
 unfolding displacement ◌>>◌
-returns-then-p-eq-CLOSING_BRACKET c = record { so = still _ _ (then_comes _ is_kind (rw (mark_ahead c.args.src.now c.args.p "]" (plain "]" refl) c.if-p-eq-CLOSING_BRACKET.true) (gives 0))) }
+returns-then-eq c = reads_with (still _ (then_comes _ is_kind (rw (mark_there c.args.source.text.now c.args.p kind.CloseBracket "]" (plain "]" refl) refl c.if-eq.ensures) (gives 0))))
 
-pub returns-in-Refused : goal.returns-in-Refused
+pub returns-in_err-after : goal.returns-in_err-after
 unfolding displacement ◌>>◌
-returns-in-Refused c = record { so = then_denied _ is_kind (rw (other_ahead c.args.src.now c.args.p "]" (plain "]" refl) c.if-p-eq-CLOSING_BRACKET.false) (first_denied _ (outermost (subst (Reads _ _ _ _ _ _ _) c.in-Refused.is c.expression.ensures)).so)) }
+returns-in_err-after c = with_handed c.from_residual.ensures.1 (then_denied _ is_kind (rw (other_there c.args.source.text.now c.args.p kind.CloseBracket "]" (plain "]" refl) refl c.if-eq.ensures) (first_denied _ (outermost c.in_err-after.ensures).so)))
 
-pub returns-in-Done : goal.returns-in-Done
+pub returns : goal.returns
 unfolding displacement ◌>>◌
-returns-in-Done c = record { so = ends (comes _ _ (starts _ _ _ _ _ _) is_kind) (rw (other_ahead c.args.src.now c.args.p "]" (plain "]" refl) c.if-p-eq-CLOSING_BRACKET.false) (lands (called _ _ (starts _ _ _ _ _ _) (outermost (subst (Reads _ _ _ _ _ _ _) c.in-Done.is c.expression.ensures)).so) (gives 1))) }
+returns c = reads_with (ends (comes _ _ (starts _ _ _ _ _) is_kind) (rw (other_there c.args.source.text.now c.args.p kind.CloseBracket "]" (plain "]" refl) refl c.if-eq.ensures) (lands (called _ _ (starts _ _ _ _ _) (outermost c.in_ok-after.ensures).so) (gives 1))))

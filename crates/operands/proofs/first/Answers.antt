@@ -1,21 +1,19 @@
 -- The register is passed, and what follows it is read.
 -- Assumes nothing.
 use Rattle.rules.specs.Reader.{◌>>◌}
-use mathlib.Core.Path.{subst}
 use mathlib.Core.Option.{some}
-use Rattle.state.specs.Views.{Passes}
-use Rattle.operands.specs.Answers.{Looks}
-use Rattle.state.proofs.Chain.{returns as gives, then_comes, then_denied, first_denied}
+use Rattle.state.proofs.Chain.{looks_comes, returns as gives, then_comes, then_denied, first_denied}
+use Rattle.operands.proofs.Laws.{looks_handed}
 use Rattle.operands.proofs.first.Goals as goal
 
-pub returns-in-Stopped : goal.returns-in-Stopped
+pub returns-in_err-q : goal.returns-in_err-q
 unfolding ◌>>◌
-returns-in-Stopped c = record { so = first_denied _ (subst (Passes _ _ _ _) c.in-Stopped.is c.next.ensures).so }
+returns-in_err-q c = looks_handed c.from_residual.ensures.1 (first_denied _ c.in_err-q.ensures.so)
 
-pub returns-in-Stopped-second : goal.returns-in-Stopped-second
+pub returns-in_err-after : goal.returns-in_err-after
 unfolding ◌>>◌
-returns-in-Stopped-second c = record { so = then_denied _ (subst (Passes _ _ _ _) c.in-Ahead.is c.next.ensures).so (first_denied _ (subst (Looks _ _ _) c.in-Stopped-second.is c.second.ensures).so) }
+returns-in_err-after c = looks_handed c.from_residual-in_err-after.ensures.1 (then_denied _ c.in_ok-q.ensures.so (first_denied _ c.in_err-after.ensures.so))
 
-pub returns-in-Found : goal.returns-in-Found
+pub returns : goal.returns
 unfolding ◌>>◌
-returns-in-Found c = record { so = then_comes _ (subst (Passes _ _ _ _) c.in-Ahead.is c.next.ensures).so (then_comes _ (subst (Looks _ _ _) c.in-Found.is c.second.ensures).so (gives (some _))) }
+returns c = looks_comes (then_comes _ c.in_ok-q.ensures.so (then_comes _ c.in_ok-after.ensures.so (gives (some _))))

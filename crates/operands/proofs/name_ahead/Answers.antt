@@ -1,20 +1,12 @@
--- A word is looked up by the key of its text; any other token names nothing.
+-- A word is looked up by its text; any other token names nothing.
 -- Assumes nothing.
 use mathlib.Core.Path.{ap, ◌∙◌}
-use borrow.Author.Tests.{ne_eqb}
 use Rattle.names.specs.Names.{name_of}
-use Rattle.names.proofs.Names.{names_by}
-use Rattle.state.proofs.Bytes.{text_bytes}
-use Rattle.operands.proofs.Laws.{word_named, no_name}
+use Rattle.operands.proofs.Laws.{name_there, no_name_there}
 use Rattle.operands.proofs.name_ahead.Goals as goal
 
-pub returns-then-p-eq-WORD : goal.returns-then-p-eq-WORD
-returns-then-p-eq-WORD c =
-    let h = c.text.ensures in
-    c.name_by.ensures
-    ∙ names_by _ (text_bytes c.args.src.now c.shared_slice_known-1.given c.args.p.token_start c.args.p.pos h) c.word_key-key.ensures.0
-    ∙ ap name_of h
-    ∙ word_named _ _ _ c.if-p-eq-WORD.true
+pub returns-then-eq : goal.returns-then-eq
+returns-then-eq c = c.name_of.ensures ∙ ap name_of c.text.ensures ∙ name_there c.args.source.text.now c.args.p c.if-eq.ensures
 
-pub returns-else-p-eq-WORD : goal.returns-else-p-eq-WORD
-returns-else-p-eq-WORD c = no_name _ _ _ (ne_eqb _ _ c.if-p-eq-WORD.false)
+pub returns-else-eq : goal.returns-else-eq
+returns-else-eq c = no_name_there c.args.source.text.now c.args.p c.if-eq.ensures

@@ -6,13 +6,14 @@ use lib.ListN.{length}
 use Rattle.rules.specs.Operands.{operand_sized, operand as rules-operand}
 use Rattle.state.specs.Views.{line, line_of}
 use Rattle.state.proofs.Chain.{Sofar}
+use Rattle.operands.specs.Answers.{coded}
 use Rattle.operands.proofs.operand.Given as goal
 
-abbrev pub invariant-loop-q : goal.invariant-loop-q
-invariant-loop-q l =
+abbrev pub invariant-loop-source : goal.invariant-loop-source
+invariant-loop-source l =
     (n : ℕ)
-    × (length (line_of l.src l.q).more ≤ n)
-    × Sofar line l.src l.initial.q rules-operand l.at l.initial.out l.q (operand_sized (suc n) l.size) l.at l.out
+    × (length (line_of l.source.text.now l.q).more ≤ n)
+    × Sofar line l.source.text.now l.initial.q rules-operand l.initial.out l.q (operand_sized (suc n) (coded l.size)) l.out
 
-abbrev pub decreases-loop-q : goal.decreases-loop-q
-decreases-loop-q l = length (line_of l.src l.q).more
+abbrev pub decreases-loop-source : goal.decreases-loop-source
+decreases-loop-source l = length (line_of l.source.text.now l.q).more

@@ -8,4 +8,4 @@ use Rattle.printing.proofs.put_end.Goals as goal
 
 pub returns : goal.returns
 unfolding line numbers bytes
-returns c = follows _ _ (behind (bytes "END") [] c.args.count c.put_all-to.ensures c.put_number-to.ensures) c.put.ensures
+returns c = follows _ _ (behind (bytes "END") [] c.args.count c.put_all.ensures c.put_number.ensures) c.put.ensures

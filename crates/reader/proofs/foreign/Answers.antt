@@ -1,20 +1,14 @@
-use mathlib.Core.Path.{refl, sym, ◌∙◌}
-use native.Mathlib.Omega.{arith}
+use mathlib.Core.Path.{sym, ◌∙◌}
 use borrow.Author.Rules.{rules}
-use Rattle.reader.proofs.Lending.{ascii_place, foreign_here, foreign_on, foreign_end, place_found, place_none}
+use borrow.Author.Tests.{tests}
+use Rattle.std.proofs.lemmas.Iterator.{IsFirst-from_position, YieldsList-from_slice}
+use Rattle.reader.proofs.Lending.{none_found, searched, High, Low}
 use Rattle.reader.proofs.foreign.Goals as goal
 
 pub returns-then-is_ascii : goal.returns-then-is_ascii
-returns-then-is_ascii c = ascii_place _ (sym c.is_ascii.ensures ∙ c.if-is_ascii.true)
-
-pub loop-i-init : goal.loop-i-init
-loop-i-init c = (search rules, refl)
-
-pub returns-then-source-i-gt127 : goal.returns-then-source-i-gt127
-returns-then-source-i-gt127 c = place_found _ (sym c.loop-i.invariant.1 ∙ foreign_here _ _ c.loop-i-test.true c.if-source-i-gt127.true)
-
-pub loop-i-preserved : goal.loop-i-preserved
-loop-i-preserved c = (omega arith, foreign_on _ _ c.loop-i-test.true c.if-source-i-gt127.false ∙ c.loop-i.invariant.1)
+returns-then-is_ascii c = none_found _ (sym c.is_ascii.ensures ∙ c.if-is_ascii.true)
 
 pub returns : goal.returns
-returns c = place_none _ (sym c.loop-i.invariant.1 ∙ foreign_end _ _ c.loop-i-test.false) (omega arith)
+returns c =
+    let s = c.args.source.now in
+    searched s c.position.result (IsFirst-from_position _ _ c.position.result High Low c.position.ensures.ran (YieldsList-from_slice s cc) (λ x q k. search (rules, tests)) (λ x q k. search (rules, tests)))

@@ -1,5 +1,4 @@
 -- The first token from a place on. The invariant: what is left of the source from here on has the same tokens.
--- Assumes nothing.
 use Prim.Native.Nat.{◌-◌, ◌^◌, ◌<◌}
 use mathlib.Core.Path.{◌≡◌}
 use lib.ListN.{length}
@@ -7,7 +6,7 @@ use Rattle.state.proofs.Stream.{From}
 use Rattle.state.proofs.fetch.Given as goal
 
 abbrev pub invariant-loop-at : goal.invariant-loop-at
-invariant-loop-at l = (From l.src l.at ≡ From l.src l.place) × (l.at < 2 ^ 32)
+invariant-loop-at l = (From l.source.text.now l.at ≡ From l.source.text.now l.place) × (l.at < 2 ^ 32)
 
 abbrev pub decreases-loop-at : goal.decreases-loop-at
-decreases-loop-at l = length l.src - l.at
+decreases-loop-at l = length l.source.text.now - l.at

@@ -1,39 +1,39 @@
--- It follows its reader statement by statement. The bytes of the literals are written first, and the record before them when they are counted.
+-- It follows its reader statement by statement. The bytes of the literals are put first, and the record before them when they are counted.
 -- Assumes nothing.
 use Rattle.rules.specs.Reader.{◌>>◌}
-use mathlib.Core.Path.{sym, subst, ◌∙◌}
-use mathlib.Core.List.{[]}
-use native.Mathlib.Omega.{arith}
+use mathlib.Core.Path.{sym, ◌∙◌}
 use Rattle.rules.specs.Records.{LD}
 use Rattle.rules.specs.Statements.{data_of}
-use Rattle.state.specs.Views.{Passes}
-use Rattle.statements.specs.Statements.{ReadsLiterals}
+use Rattle.records.proofs.Writers.{data_put}
 use Rattle.state.proofs.Chain.{called_denied, comes, ends, writes, lifts_comes, lifts_denied, is_passed, is_left, reads_done, reads_refused}
+use Rattle.statements.proofs.Lines.{exits}
 use Rattle.statements.proofs.Forms.{past_word, word_denied}
-use Rattle.statements.proofs.Data.{data_some, data_none, wrote_data}
+use Rattle.statements.proofs.Data.{data_some, data_none}
 use Rattle.statements.proofs.data_of.Goals as goal
 
-pub next-requires : goal.next-requires
-next-requires c = (c.requires.0, (rw c.requires.1, rw c.requires.1))
+pub returns-in_err-q : goal.returns-in_err-q
+returns-in_err-q c = rw (exits c.from_residual.ensures.1) (reads_refused (word_denied _ c.in_err-q.ensures.so))
 
-pub overflow_sub-w : goal.overflow_sub-w
-overflow_sub-w c = omega (arith, (subst (ReadsLiterals _ _ _ _ _ _) c.in-Done.is c.literals.ensures).so.wrote.grows)
-
-pub returns-in-Stopped : goal.returns-in-Stopped
-returns-in-Stopped c = reads_refused (word_denied _ (subst (Passes _ _ _ _) c.in-Stopped.is c.next.ensures).so)
-
-pub returns-in-Refused : goal.returns-in-Refused
+pub returns-in_err-end : goal.returns-in_err-end
 unfolding ◌>>◌ data_of
-returns-in-Refused c = reads_refused (called_denied _ _ (comes _ _ (past_word _ 0 [] (subst (Passes _ _ _ _) c.in-Ahead.is c.next.ensures).so) (lifts_comes is_left)) (lifts_denied (subst (ReadsLiterals _ _ _ _ _ _) c.in-Refused.is c.literals.ensures).so))
+returns-in_err-end c = rw (exits c.from_residual-in_err-end.ensures.1) (reads_refused (called_denied _ _ (comes _ _ (past_word _ c.args.out.now c.in_ok-q.ensures.so) (lifts_comes is_left)) (lifts_denied c.in_err-end.ensures.so)))
 
-pub returns-in-Stopped-line_end : goal.returns-in-Stopped-line_end
+pub returns-then-not-some : goal.returns-then-not-some
 unfolding ◌>>◌ data_of
-returns-in-Stopped-line_end c = let d = (subst (ReadsLiterals _ _ _ _ _ _) c.in-Done.is c.literals.ensures).so in reads_refused (called_denied _ _ (comes _ _ (data_some _ _ (comes _ _ (comes _ _ (past_word _ 0 [] (subst (Passes _ _ _ _) c.in-Ahead.is c.next.ensures).so) (lifts_comes is_left)) (lifts_comes d.comes)) (sym d.is_some_lem ∙ c.if-some.true)) (lifts_comes is_passed)) (subst (Passes _ _ _ _) c.in-Stopped-line_end.is c.line_end.ensures).so)
+returns-then-not-some c =
+    let d = c.in_ok-end.ensures.so in
+    reads_refused (data_none _ _ (comes _ _ (comes _ _ (past_word _ c.args.out.now c.in_ok-q.ensures.so) (lifts_comes is_left)) (lifts_comes d.comes)) (sym d.is_some_lem ∙ c.if-not-some.true) c.refused_at.ensures)
 
-pub returns-in-Ahead-line_end : goal.returns-in-Ahead-line_end
+pub returns-in_err-below : goal.returns-in_err-below
 unfolding ◌>>◌ data_of
-returns-in-Ahead-line_end c = let d = (subst (ReadsLiterals _ _ _ _ _ _) c.in-Done.is c.literals.ensures).so in reads_done (ends (comes _ _ (comes _ _ (data_some _ _ (comes _ _ (comes _ _ (past_word _ _ _ (subst (Passes _ _ _ _) c.in-Ahead.is c.next.ensures).so) (lifts_comes is_left)) (lifts_comes d.comes)) (sym d.is_some_lem ∙ c.if-some.true)) (lifts_comes is_passed)) (subst (Passes _ _ _ _) c.in-Ahead-line_end.is c.line_end.ensures).so) (writes (LD _ _ _) (wrote_data _ _ _ c.data_place-first.ensures d.wrote c.put_record.ensures)))
+returns-in_err-below c =
+    let d = c.in_ok-end.ensures.so in
+    let so = data_some _ _ (comes _ _ (comes _ _ (past_word _ c.args.out.now c.in_ok-q.ensures.so) (lifts_comes is_left)) (lifts_comes d.comes)) (sym d.is_some_lem ∙ c.if-not-some.false) in
+    rw (exits c.from_residual-in_err-below.ensures.1) (reads_refused (called_denied _ _ (comes _ _ so (lifts_comes is_passed)) c.in_err-below.ensures.so))
 
-pub returns-else-some : goal.returns-else-some
+pub returns : goal.returns
 unfolding ◌>>◌ data_of
-returns-else-some c = let d = (subst (ReadsLiterals _ _ _ _ _ _) c.in-Done.is c.literals.ensures).so in reads_refused (data_none _ _ (comes _ _ (comes _ _ (past_word _ 0 [] (subst (Passes _ _ _ _) c.in-Ahead.is c.next.ensures).so) (lifts_comes is_left)) (lifts_comes d.comes)) (sym d.is_some_lem ∙ c.if-some.false) c.refused_at.ensures)
+returns c =
+    let d = c.in_ok-end.ensures.so in
+    let so = data_some _ _ (comes _ _ (comes _ _ (past_word _ c.args.out.now c.in_ok-q.ensures.so) (lifts_comes is_left)) (lifts_comes d.comes)) (sym d.is_some_lem ∙ c.if-not-some.false) in
+    reads_done (ends (comes _ _ (comes _ _ so (lifts_comes is_passed)) c.in_ok-below.ensures.so) (writes (LD _ _ _) (data_put _ _ _ c.begin_data-start.ensures d.puts c.end_data.ensures)))

@@ -1,17 +1,24 @@
--- Each byte of a kind is the literal that the rules say.
+-- Each kind is the literal that the rules say.
 -- Assumes nothing.
-use borrow.Author.Tests.{ne_eqb}
+use mathlib.Core.Path.{ap}
+use Rattle.lexer.specs.Scanned.{number_of}
+use Rattle.statements.proofs.Lines.{is_other_than}
 use Rattle.statements.proofs.Data.{is_comma, is_string, is_open_lem, is_other}
 use Rattle.statements.proofs.literal.Goals as goal
 
-pub returns-then-kind-eq-COMMA : goal.returns-then-kind-eq-COMMA
-returns-then-kind-eq-COMMA c = record { so = is_comma _ _ _ _ _ c.if-kind-eq-COMMA.true }
+pub returns-in-Comma : goal.returns-in-Comma
+returns-in-Comma c = record { so = is_comma _ _ _ _ (ap number_of c.in-Comma.is) }
 
-pub returns-then-kind-eq-CLOSED : goal.returns-then-kind-eq-CLOSED
-returns-then-kind-eq-CLOSED c = record { so = is_string _ _ _ c.if-kind-eq-CLOSED.true c.text-word.ensures c.put_characters-w.ensures }
+pub returns-in-Number : goal.returns-in-Number
+returns-in-Number c = c.number.ensures _
 
-pub returns-then-kind-eq-UNCLOSED : goal.returns-then-kind-eq-UNCLOSED
-returns-then-kind-eq-UNCLOSED c = rw c.refuse_here.ensures (record { so = is_open_lem _ _ _ c.if-kind-eq-UNCLOSED.true })
+pub returns-in-ClosedString : goal.returns-in-ClosedString
+returns-in-ClosedString c = record { so = is_string _ _ _ (ap number_of c.in-ClosedString.is) c.text-word.ensures c.put_characters.ensures }
 
-pub returns : goal.returns
-returns c = rw c.refuse_here-2.ensures (record { so = is_other _ _ _ (ne_eqb _ _ c.if-kind-eq-COMMA.false) (ne_eqb _ _ c.if-kind-eq-NUMBER.false) (ne_eqb _ _ c.if-kind-eq-CLOSED.false) (ne_eqb _ _ c.if-kind-eq-UNCLOSED.false) c.requires.0.0 c.requires.0.1 })
+pub returns-in-UnclosedString : goal.returns-in-UnclosedString
+returns-in-UnclosedString c = record { so = is_open_lem _ _ _ (ap number_of c.in-UnclosedString.is) c.refuse_here.ensures }
+
+pub returns-in_default : goal.returns-in_default
+returns-in_default c =
+    let d = c.in_default in
+    record { so = is_other _ _ _ (is_other_than d.not-Comma) (is_other_than d.not-Number) (is_other_than d.not-ClosedString) (is_other_than d.not-UnclosedString) c.requires c.refuse_here-in_default.ensures }

@@ -1,23 +1,25 @@
 -- A number that fits is in its one byte or two, low first; one that doesn't is 60.
 -- Assumes nothing.
-use mathlib.Core.Path.{◌≡◌}
+use mathlib.Core.Path.{refl, ap}
 use native.Mathlib.Omega.{arith}
+use Rattle.lexer.specs.Scanned.{number_of}
 use Rattle.rules.specs.Records.{field}
-use Rattle.statements.proofs.Data.{byte_largest, word_largest, within, beyond, is_number, is_wide}
+use Rattle.rules.specs.Statements.{largest}
+use Rattle.statements.proofs.Data.{within, beyond, is_number, is_wide}
 use Rattle.statements.proofs.number.Goals as goal
 
 pub returns-then-v-gt255 : goal.returns-then-v-gt255
-returns-then-v-gt255 c = rw c.refuse_here.ensures (record { so = is_wide _ _ _ c.requires.0 (beyond _ _ (byte_largest _ c.if-width-eq1.true) c.if-v-gt255.true) })
-
-pub returns-then-width-eq1 : goal.returns-then-width-eq1
-unfolding field
-returns-then-width-eq1 c = record { so = is_number _ _ _ c.requires.0 (within _ _ (byte_largest _ c.if-width-eq1.true) c.if-v-gt255.false) c.requires.1 (rw c.if-width-eq1.true c.put.ensures) }
+unfolding largest
+returns-then-v-gt255 c s = rw c.in-Byte.is (record { so = is_wide _ _ _ (ap number_of c.requires) (beyond 1 _ refl c.if-v-gt255.true) c.refuse_here.ensures })
 
 pub returns-then-v-gt65535 : goal.returns-then-v-gt65535
-returns-then-v-gt65535 c = rw c.refuse_here-then-v-gt65535.ensures (record { so = is_wide _ _ _ c.requires.0 (beyond _ _ (word_largest _ c.if-width-eq1.false) c.if-v-gt65535.true) })
+unfolding largest
+returns-then-v-gt65535 c s = rw c.in-Word.is (record { so = is_wide _ _ _ (ap number_of c.requires) (beyond 2 _ refl c.if-v-gt65535.true) c.refuse_here-then-v-gt65535.ensures })
 
-pub returns : goal.returns
-unfolding field
-returns c =
-    let e : c.args.width ≡ 2 = omega (arith, c.requires, c.if-width-eq1.false) in
-    record { so = is_number _ _ _ c.requires.0 (within _ _ (word_largest _ c.if-width-eq1.false) c.if-v-gt65535.false) c.requires.1 (rw e c.put_two.ensures) }
+pub returns-else-v-gt255 : goal.returns-else-v-gt255
+unfolding largest field
+returns-else-v-gt255 c s = rw c.in-Byte.is (record { so = is_number _ _ 1 (ap number_of c.requires) (within 1 _ refl c.if-v-gt255.false) (omega arith) c.put.ensures })
+
+pub returns-else-v-gt65535 : goal.returns-else-v-gt65535
+unfolding largest field
+returns-else-v-gt65535 c s = rw c.in-Word.is (record { so = is_number _ _ 2 (ap number_of c.requires) (within 2 _ refl c.if-v-gt65535.false) (omega arith) c.put_two.ensures })

@@ -1,17 +1,13 @@
-use native.Mathlib.Omega.{arith}
 use native.Mathlib.Numerals.{add-one}
 use lib.Seq.{take-suc, take_all}
-use Rattle.records.proofs.Writes.{nothing, follows}
+use Rattle.records.proofs.Writers.{puts_nothing, puts_follow}
 use Rattle.statements.proofs.put_bytes.Goals as goal
 
-pub loop-i-init : goal.loop-i-init
-loop-i-init c = (nothing _ _, omega arith)
+pub loop-b-init : goal.loop-b-init
+loop-b-init c = puts_nothing _
 
-pub loop-i-preserved : goal.loop-i-preserved
-loop-i-preserved c = (rw (add-one, take-suc c.args.b.now c.loop-i.i 0 c.loop-i-test.true) (follows _ _ c.loop-i.invariant.0 c.put-w.ensures), omega arith)
-
-pub shape_of-out : goal.shape_of-out
-shape_of-out c = c.loop-i.invariant.0.long
+pub loop-b-preserved : goal.loop-b-preserved
+loop-b-preserved c = rw (add-one, take-suc c.args.bytes.now c.loop-b.b-index 0 c.loop-b-test.true) (puts_follow _ _ c.loop-b.invariant c.put.ensures)
 
 pub returns : goal.returns
-returns c = rw (take_all c.loop-i.i c.args.b.now (omega (arith, c.loop-i-test.false))) at c.loop-i.invariant.0
+returns c = rw (take_all c.loop-b.b-index c.args.bytes.now c.loop-b-test.false) at c.loop-b.invariant

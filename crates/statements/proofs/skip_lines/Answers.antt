@@ -1,23 +1,20 @@
-use mathlib.Core.Path.{refl, subst, ◌∙◌}
-use borrow.Author.Tests.{eq-eqb, ne_eqb}
-use Rattle.state.specs.Views.{Passes}
-use Rattle.statements.proofs.Lines.{feed_falls, feed_skips, feed_denied, skip_stays}
+use mathlib.Core.Path.{◌∙◌}
+use borrow.Author.Tests.{eq-eqb}
+use Rattle.lexer.specs.declared.Kind.TheVariants as kind
+use Rattle.statements.proofs.Lines.{exits, same_kind, other_kind, feed_falls, feed_skips, feed_denied, skip_stays}
 use Rattle.statements.proofs.skip_lines.Goals as goal
 
-pub loop-q-init : goal.loop-q-init
-loop-q-init c = refl
+pub returns-in_err-q : goal.returns-in_err-q
+returns-in_err-q c =
+    let e = eq-eqb _ _ (same_kind kind.NewLine _ c.loop-source-test.ensures) in
+    let d = c.in_err-q.ensures.so in
+    rw (exits c.from_residual.ensures.1) (record { so = record { cause = d.cause; reads = c.loop-source.invariant ∙ feed_denied _ _ e d.reads; by_numbers = d.by_numbers } })
 
-pub next_line-requires : goal.next_line-requires
-next_line-requires c = (c.requires, (eq-eqb _ _ c.loop-q-test.true))
+pub loop-source-smaller : goal.loop-source-smaller
+loop-source-smaller c = feed_falls _ _ (eq-eqb _ _ (same_kind kind.NewLine _ c.loop-source-test.ensures)) c.in_ok-q.ensures.so
 
-pub returns-in-Stopped : goal.returns-in-Stopped
-returns-in-Stopped c = let d = (subst (Passes _ _ _ _) c.in-Stopped.is c.next_line.ensures).so in record { so = record { cause = d.cause; reads = c.loop-q.invariant ∙ feed_denied _ _ (eq-eqb _ _ c.loop-q-test.true) d.reads; numbers = d.numbers } }
-
-pub loop-q-smaller : goal.loop-q-smaller
-loop-q-smaller c = feed_falls _ _ (eq-eqb _ _ c.loop-q-test.true) (subst (Passes _ _ _ _) c.in-Ahead.is c.next_line.ensures).so
-
-pub loop-q-preserved : goal.loop-q-preserved
-loop-q-preserved c = c.loop-q.invariant ∙ feed_skips _ _ (eq-eqb _ _ c.loop-q-test.true) (subst (Passes _ _ _ _) c.in-Ahead.is c.next_line.ensures).so
+pub loop-source-preserved : goal.loop-source-preserved
+loop-source-preserved c = c.loop-source.invariant ∙ feed_skips _ _ (eq-eqb _ _ (same_kind kind.NewLine _ c.loop-source-test.ensures)) c.in_ok-q.ensures.so
 
 pub returns : goal.returns
-returns c = record { so = record { reads = c.loop-q.invariant ∙ skip_stays _ _ (ne_eqb _ _ c.loop-q-test.false); kept = tt } }
+returns c = record { so = record { reads = c.loop-source.invariant ∙ skip_stays _ _ (other_kind kind.NewLine _ c.loop-source-test.ensures); kept = tt } }

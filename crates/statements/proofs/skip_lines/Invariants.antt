@@ -6,8 +6,8 @@ use Rattle.rules.proofs.Progress.{size}
 use Rattle.state.specs.Views.{state_of}
 use Rattle.statements.proofs.skip_lines.Given as goal
 
-abbrev pub invariant-loop-q : goal.invariant-loop-q
-invariant-loop-q l = skip_lines (state_of l.src l.initial.q) ≡ skip_lines (state_of l.src l.q)
+abbrev pub invariant-loop-source : goal.invariant-loop-source
+invariant-loop-source l = skip_lines (state_of l.source.text.now l.initial.q) ≡ skip_lines (state_of l.source.text.now l.q)
 
-abbrev pub decreases-loop-q : goal.decreases-loop-q
-decreases-loop-q l = size (state_of l.src l.q)
+abbrev pub decreases-loop-source : goal.decreases-loop-source
+decreases-loop-source l = size (state_of l.source.text.now l.q)

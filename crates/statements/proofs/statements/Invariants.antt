@@ -5,8 +5,8 @@ use Rattle.state.specs.Views.{state_of}
 use Rattle.statements.proofs.Run.{Runs}
 use Rattle.statements.proofs.statements.Given as goal
 
-abbrev pub invariant-loop-r : goal.invariant-loop-r
-invariant-loop-r l = Runs l.table l.src l.initial.q l.initial.place l.initial.out l.q l.place l.out
+abbrev pub invariant-loop-after : goal.invariant-loop-after
+invariant-loop-after l = Runs l.table.rows.now l.source.text.now l.initial.q l.initial.out l.q l.out
 
-abbrev pub decreases-loop-r : goal.decreases-loop-r
-decreases-loop-r l = size (state_of l.src l.q)
+abbrev pub decreases-loop-after : goal.decreases-loop-after
+decreases-loop-after l = size (state_of l.source.text.now l.q)

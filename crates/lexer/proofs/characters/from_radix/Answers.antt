@@ -1,63 +1,63 @@
-use Prim.Native.Nat.{ℕ, ◌+◌, ◌*◌, ◌≤◌, ◌<◌, ◌-◌}
-use mathlib.Core.List.{List, ◌∷◌}
-use mathlib.Core.Path.{◌≡◌, refl, sym, ap, ◌∙◌}
-use borrow.Author.Rules.{rules}
-use native.Mathlib.Omega.{arith}
+use Rattle.std.proofs.Common.{rules, arith, ◌≡◌, true, ℕ, ◌+◌, ◌*◌, ◌<◌, List, ◌∷◌, length, drop, get_or, refl, sym, ap, ◌∙◌}
+use Rattle.std.specs.Prelude.{Option}
 use native.Mathlib.Nat.{mul-le-mul}
-use lib.ListN.{length, take, drop, get_or}
-use Rattle.lexer.specs.Text.{digit}
+use native.Mathlib.Numerals.{add-one}
+use lib.ListN.{drop_of_length-le}
+use lib.Seq.{drop-cons}
+use Rattle.lexer.specs.Text.{is_hex_digit, digit, all}
 use Rattle.lexer.specs.Runs.{valued_from}
-use Rattle.lexer.proofs.Runs.{hex_more, digits_more, digits_none, valued_more, valued_stop, valued_large, valued_end}
-use Rattle.lexer.specs.declared.characters.Value.{Value}
+use Rattle.lexer.proofs.Runs.{both, valued_more, valued_stop, valued_large, valued_end}
 use Rattle.lexer.proofs.characters.from_radix.Goals as goal
 
--- the digit at i is the next of those that are left
-next : (s : List ℕ) (to base v i : ℕ) {w : Value} → i < to → to ≤ length s → valued_from v base (take (to - i) (drop i s)) ≡ w
-    → valued_from v base (get_or s i 0 ∷ take (to - (i + 1)) (drop (i + 1) s)) ≡ w
-next s to base v i t l e = sym (ap (valued_from v base) (digits_more s i to t l)) ∙ e
+module _ (s : List ℕ) (i : ℕ) (h : i < length s) where
+  first : drop i s ≡ get_or s i 0 ∷ drop (i + 1) s
+  first = rw (drop-cons s i 0 h, add-one)
 
--- and one that fits the base is taken into the number
-taken : (s : List ℕ) (to base v i d : ℕ) {w : Value} → d ≡ digit (get_or s i 0) → d < base
-    → valued_from v base (get_or s i 0 ∷ take (to - (i + 1)) (drop (i + 1) s)) ≡ w → valued_from (v * base + d) base (take (to - (i + 1)) (drop (i + 1) s)) ≡ w
-taken s to base v i d e h n =
-    let fits : digit (get_or s i 0) < base = omega (arith, e) in
-    rw e (sym (valued_more _ _ _ _ fits) ∙ n)
+  -- the digit at i is a hexadecimal one, as all that follow
+  hex : all is_hex_digit (drop i s) ≡ true → (is_hex_digit (get_or s i 0) ≡ true) × (all is_hex_digit (drop (i + 1) s) ≡ true)
+  unfolding all
+  hex e = both (is_hex_digit (get_or s i 0)) _ (rw first at e)
 
-pub loop-i-init : goal.loop-i-init
-loop-i-init c = (search rules, search rules, refl, c.requires.4)
+  -- and one that fits the base is taken into the number
+  taken : (base v d : ℕ) {w : Option ℕ} → d ≡ digit (get_or s i 0) → d < base → valued_from v base (drop i s) ≡ w → valued_from (v * base + d) base (drop (i + 1) s) ≡ w
+  taken base v d e l n =
+      let fits : digit (get_or s i 0) < base = omega (arith, e) in
+      rw e (sym (valued_more _ _ _ _ fits) ∙ sym (ap (valued_from v base) first) ∙ n)
+
+pub loop-c-init : goal.loop-c-init
+loop-c-init c = (search rules, refl, c.requires.2)
 
 pub returns-then-base-d : goal.returns-then-base-d
 returns-then-base-d c =
-    let a = c.args in
-    let l = c.loop-i in
-    let hex = hex_more a.source.now l.i a.to c.loop-i-test.true c.requires.1 l.invariant.3 in
-    valued_stop _ _ _ _ (omega (arith, c.digit_value-d.ensures hex.0)) ∙ next a.source.now a.to a.base l.v l.i c.loop-i-test.true c.requires.1 l.invariant.2
+    let s = c.args.digits.now in
+    let l = c.loop-c in
+    let e = hex s l.c-index c.loop-c-test.true l.invariant.2 in
+    valued_stop _ _ _ _ (omega (arith, c.digit_value-d.ensures e.0)) ∙ sym (ap (valued_from l.v c.args.base) (first s l.c-index c.loop-c-test.true)) ∙ l.invariant.1
 
 -- before a digit is taken, the number is small
 pub overflow_mul-v : goal.overflow_mul-v
-overflow_mul-v c = omega (arith, mul-le-mul c.loop-i.invariant.1 c.requires.3)
+overflow_mul-v c = omega (arith, mul-le-mul c.loop-c.invariant.0 c.requires.1)
 
 pub overflow_add-v : goal.overflow_add-v
-overflow_add-v c = omega (arith, mul-le-mul c.loop-i.invariant.1 c.requires.3)
+overflow_add-v c = omega (arith, mul-le-mul c.loop-c.invariant.0 c.requires.1)
 
 pub returns-then-v-gt2147483647 : goal.returns-then-v-gt2147483647
 returns-then-v-gt2147483647 c =
-    let a = c.args in
-    let l = c.loop-i in
-    let hex = hex_more a.source.now l.i a.to c.loop-i-test.true c.requires.1 l.invariant.3 in
-    valued_large _ _ _ c.requires.2 c.if-v-gt2147483647.true
-    ∙ taken a.source.now a.to a.base l.v l.i _ (c.digit_value-d.ensures hex.0) c.if-base-d.false (next a.source.now a.to a.base l.v l.i c.loop-i-test.true c.requires.1 l.invariant.2)
+    let s = c.args.digits.now in
+    let l = c.loop-c in
+    let e = hex s l.c-index c.loop-c-test.true l.invariant.2 in
+    valued_large _ _ _ c.requires.0 c.if-v-gt2147483647.true ∙ taken s l.c-index c.loop-c-test.true c.args.base l.v _ (c.digit_value-d.ensures e.0) c.if-base-d.false l.invariant.1
 
-pub loop-i-preserved : goal.loop-i-preserved
-loop-i-preserved c =
-    let a = c.args in
-    let l = c.loop-i in
-    let hex = hex_more a.source.now l.i a.to c.loop-i-test.true c.requires.1 l.invariant.3 in (
-      search rules,
-      search rules,
-      taken a.source.now a.to a.base l.v l.i _ (c.digit_value-d.ensures hex.0) c.if-base-d.false (next a.source.now a.to a.base l.v l.i c.loop-i-test.true c.requires.1 l.invariant.2),
-      hex.1,
-    )
+pub loop-c-preserved : goal.loop-c-preserved
+loop-c-preserved c =
+    let s = c.args.digits.now in
+    let l = c.loop-c in
+    let e = hex s l.c-index c.loop-c-test.true l.invariant.2 in
+    (search rules, taken s l.c-index c.loop-c-test.true c.args.base l.v _ (c.digit_value-d.ensures e.0) c.if-base-d.false l.invariant.1, e.1)
+
+pub overflow_cast-result : goal.overflow_cast-result
+overflow_cast-result c = omega (arith, c.loop-c.invariant.0)
 
 pub returns : goal.returns
-returns c = valued_end _ _ c.loop-i.invariant.1 ∙ sym (ap (valued_from _ _) (digits_none _ _ _ c.loop-i-test.false)) ∙ c.loop-i.invariant.2
+returns c =
+    valued_end _ _ c.loop-c.invariant.0 ∙ sym (ap (valued_from _ _) (drop_of_length-le c.args.digits.now c.loop-c-test.false)) ∙ c.loop-c.invariant.1

@@ -1,13 +1,9 @@
--- The invariant: what is left of the run ends where the whole run does.
-use Prim.Native.Nat.{◌+◌, ◌-◌}
-use mathlib.Core.Path.{◌≡◌}
-use lib.ListN.{length, drop}
+-- The invariant: what is left of the run ends where the whole run does, whichever class of bytes the test is of.
+use Rattle.std.proofs.Common.{◌≡◌, Bool, ℕ, ◌+◌, ◌<◌, drop}
 use Rattle.lexer.specs.Text.{run}
-use Rattle.lexer.specs.Runs.{belongs}
 use Rattle.lexer.proofs.characters.run_end.Given as goal
 
 abbrev pub invariant-loop-i : goal.invariant-loop-i
-invariant-loop-i l = l.i + run (belongs l.class) (drop l.i l.source) ≡ l.from + run (belongs l.class) (drop l.from l.source)
-
-abbrev pub decreases-loop-i : goal.decreases-loop-i
-decreases-loop-i l = length l.source - l.i
+invariant-loop-i g l =
+    (p : ℕ → Bool) → ((c : ℕ) (r : Bool) → c < 256 → goal.F-post g l.belongs c r → r ≡ p c)
+    → l.i + run p (drop l.i l.source) ≡ l.fn.from + run p (drop l.fn.from l.source)

@@ -1,49 +1,36 @@
--- Each result fits 64 bits, so it is the exact one, and `in_range` says whether it fits 32.
--- Assumes nothing.
+-- A checked result is the exact one where it fits, operator by operator.
 use mathlib.Core.Path.{◌≡◌, sym, ap, ◌∙◌}
 use lib.IntN.{ℤ, ◌+ℤ◌, ◌*ℤ◌, ◌-ℤ◌}
-use lib.Signed.{quot_z}
-use Rattle.rules.specs.Calls.{unless}
-use Rattle.rules.specs.Evaluate.{signed32, evaluate}
+use Rattle.std.specs.Prelude.{Option, ok_or}
+use Rattle.rules.specs.Evaluate.{evaluate}
 use Rattle.operators.specs.declared.Operator.{Operator}
-use Rattle.operators.specs.Operators.{operator_number}
-use Rattle.operators.proofs.Evaluate.{sum_fits, difference_fits, product_fits, quotient_fits, widens, op_fits, op_is, divisor_zero, divisor_other}
+use Rattle.operators.specs.declared.EvaluateError.TheVariants.{Beyond32Bits}
+use Rattle.operators.specs.Operators.{operator_number, result_of}
+use Rattle.operators.proofs.Evaluate.{exact, divided, undivided}
 use Rattle.operators.proofs.Operator.evaluate.Goals as goal
+use Rattle.operators.proofs.Operator.evaluate.Goals.{in-Add, in-Subtract, in-Multiply, in-Divide-2}
 
-by-operator : {o o' : Operator} (a b : ℤ) → o ≡ o' → evaluate (operator_number o) a b ≡ evaluate (operator_number o') a b
-by-operator a b e = ap (λ (p : Operator). evaluate (operator_number p) a b) e
+by-operator : {o o' : Operator} (a b : ℤ) → o ≡ o' → evaluate (operator_number o') a b ≡ evaluate (operator_number o) a b
+by-operator a b e = ap (λ (p : Operator). evaluate (operator_number p) a b) (sym e)
 
-pub overflow_cast-a : goal.overflow_cast-a
-overflow_cast-a c = widens c.ranges.left
+by-value : {o o' : Option ℤ} → o ≡ o' → result_of (ok_or o Beyond32Bits) ≡ result_of (ok_or o' Beyond32Bits)
+by-value e = ap (λ (p : Option ℤ). result_of (ok_or p Beyond32Bits)) e
 
-pub overflow_cast-b : goal.overflow_cast-b
-overflow_cast-b c = widens c.ranges.right
+pub returns-in-Divide : goal.returns-in-Divide
+unfolding evaluate
+returns-in-Divide c = undivided c.ranges.left c.ranges.right c.if-right-eq0.true ∙ by-operator c.args.left c.args.right c.in-Divide.is
 
-pub overflow_add-a : goal.overflow_add-a
-overflow_add-a c = op_fits ◌+ℤ◌ sum_fits c.ranges.left c.ranges.right
-
-pub overflow_sub-a : goal.overflow_sub-a
-overflow_sub-a c = op_fits ◌-ℤ◌ difference_fits c.ranges.left c.ranges.right
-
-pub overflow_mul-a : goal.overflow_mul-a
-overflow_mul-a c = op_fits ◌*ℤ◌ product_fits c.ranges.left c.ranges.right
-
-pub returns-in-Add : goal.returns-in-Add
-unfolding evaluate unless
-returns-in-Add c = c.in_range.ensures ∙ ap signed32 (op_is ◌+ℤ◌ sum_fits c.ranges.left c.ranges.right) ∙ sym (by-operator c.args.left c.args.right c.in-Add.is)
-
-pub returns-in-Subtract : goal.returns-in-Subtract
-unfolding evaluate unless
-returns-in-Subtract c = c.in_range-in-Subtract.ensures ∙ ap signed32 (op_is ◌-ℤ◌ difference_fits c.ranges.left c.ranges.right) ∙ sym (by-operator c.args.left c.args.right c.in-Subtract.is)
-
-pub returns-in-Multiply : goal.returns-in-Multiply
-unfolding evaluate unless
-returns-in-Multiply c = c.in_range-in-Multiply.ensures ∙ ap signed32 (op_is ◌*ℤ◌ product_fits c.ranges.left c.ranges.right) ∙ sym (by-operator c.args.left c.args.right c.in-Multiply.is)
-
-pub returns-then-b-eq0 : goal.returns-then-b-eq0
-unfolding evaluate unless
-returns-then-b-eq0 c = sym (by-operator c.args.left c.args.right c.in-Divide.is ∙ rw (divisor_zero c.ranges.right c.if-b-eq0.true))
-
-pub returns-else-b-eq0 : goal.returns-else-b-eq0
-unfolding evaluate unless
-returns-else-b-eq0 c = c.in_range-else-b-eq0.ensures ∙ ap signed32 (op_is quot_z quotient_fits c.ranges.left c.ranges.right) ∙ sym (by-operator c.args.left c.args.right c.in-Divide.is ∙ rw (divisor_other c.ranges.right c.if-b-eq0.false))
+pub returns : goal.returns
+unfolding evaluate
+returns c =
+    let a = c.args.left in
+    let b = c.args.right in
+    let f = c.ranges.left in
+    let g = c.ranges.right in
+    ap result_of c.ok_or.ensures.value
+    ∙ elim c.match-self.branch [
+      | in-Add w ↦ by-value w.value-is ∙ exact ◌+ℤ◌ f g _ w.checked_add-value.ensures ∙ by-operator a b w.in-Add.is
+      | in-Subtract w ↦ by-value w.value-is ∙ exact ◌-ℤ◌ f g _ w.checked_sub-value.ensures ∙ by-operator a b w.in-Subtract.is
+      | in-Multiply w ↦ by-value w.value-is ∙ exact ◌*ℤ◌ f g _ w.checked_mul-value.ensures ∙ by-operator a b w.in-Multiply.is
+      | in-Divide-2 w ↦ by-value w.value-is ∙ divided f g w.if-right-eq0.false _ w.checked_div-value.ensures ∙ by-operator a b w.in-Divide-2.is
+    ]

@@ -9,31 +9,41 @@ use Rattle.records.proofs.OneRecord.{room_six, room_ten, room_line}
 use Rattle.records.proofs.Walks.{moved_times, moved_statement, moved_line, moved_spans}
 use Rattle.records.proofs.moves.move_record.Goals as goal
 
-pub returns-then-mark-eq-LT : goal.returns-then-mark-eq-LT
-returns-then-mark-eq-LT c = moved_times _ _ c.requires.0 c.if-mark-eq-LT.true
-
 pub move_field-requires : goal.move_field-requires
 move_field-requires c = (omega (arith, room_six c.requires.0), c.requires.1)
 
-pub returns-then-mark-eq-ST : goal.returns-then-mark-eq-ST
-returns-then-mark-eq-ST c = c.move_field.ensures ∙ moved_statement _ _ c.requires.0 c.if-mark-eq-ST.true
+pub move_field-requires-in-LI : goal.move_field-requires-in-LI
+move_field-requires-in-LI c = (omega (arith, room_line c.requires.0 c.in-LI.is), c.requires.1)
 
-pub move_field-requires-2 : goal.move_field-requires-2
-move_field-requires-2 c = (omega (arith, room_ten c.requires.0 c.if-mark-eq-ST.false), c.requires.1)
+pub move_field-requires-in-LI-2 : goal.move_field-requires-in-LI-2
+move_field-requires-in-LI-2 c = (omega (arith, room_line c.requires.0 c.in-LI.is), c.requires.1)
 
-pub move_field-requires-then-mark-eq-LI : goal.move_field-requires-then-mark-eq-LI
-move_field-requires-then-mark-eq-LI c = (omega (arith, room_line c.requires.0 c.if-mark-eq-LI.true), c.requires.1)
+pub move_field-requires-in-LI-3 : goal.move_field-requires-in-LI-3
+move_field-requires-in-LI-3 c = (omega (arith, room_line c.requires.0 c.in-LI.is), c.requires.1)
 
-pub move_field-requires-then-mark-eq-LI-2 : goal.move_field-requires-then-mark-eq-LI-2
-move_field-requires-then-mark-eq-LI-2 c = (omega (arith, room_line c.requires.0 c.if-mark-eq-LI.true), c.requires.1)
+pub move_field-requires-in-LI-4 : goal.move_field-requires-in-LI-4
+move_field-requires-in-LI-4 c = (omega (arith, room_line c.requires.0 c.in-LI.is), c.requires.1)
 
-pub returns-then-mark-eq-LI : goal.returns-then-mark-eq-LI
-returns-then-mark-eq-LI c =
+pub move_field-requires-in_default : goal.move_field-requires-in_default
+move_field-requires-in_default c = (omega (arith, room_six c.requires.0), c.requires.1)
+
+pub move_field-requires-in_default-2 : goal.move_field-requires-in_default-2
+move_field-requires-in_default-2 c = (omega (arith, room_ten c.requires.0 c.in_default.not-ST), c.requires.1)
+
+pub returns-in-LT : goal.returns-in-LT
+returns-in-LT c = moved_times _ _ c.requires.0 c.in-LT.is
+
+pub returns-in-ST : goal.returns-in-ST
+returns-in-ST c = c.move_field.ensures ∙ moved_statement _ _ c.requires.0 c.in-ST.is
+
+pub returns-in-LI : goal.returns-in-LI
+returns-in-LI c =
     let a = c.args in
     let step : ℕ → List ℕ → List ℕ = λ n l. move_field a.q a.p l (a.at + n) in
-    c.move_field-then-mark-eq-LI-2.ensures ∙ ap (step 22) (c.move_field-then-mark-eq-LI.ensures ∙ ap (step 18) (c.move_field-2.ensures ∙ ap (step 6) c.move_field.ensures)) ∙ moved_line _ _ c.requires.0 c.if-mark-eq-LI.true
+    c.move_field-in-LI-4.ensures ∙ ap (step 22) (c.move_field-in-LI-3.ensures ∙ ap (step 18) (c.move_field-in-LI-2.ensures ∙ ap (step 6) c.move_field-in-LI.ensures)) ∙ moved_line _ _ c.requires.0 c.in-LI.is
 
-pub returns-else-mark-eq-LI : goal.returns-else-mark-eq-LI
-returns-else-mark-eq-LI c =
+pub returns-in_default : goal.returns-in_default
+returns-in_default c =
     let a = c.args in
-    c.move_field-2.ensures ∙ ap (λ (l : List ℕ). move_field a.q a.p l (a.at + 6)) c.move_field.ensures ∙ moved_spans _ _ c.requires.0 c.if-mark-eq-LT.false c.if-mark-eq-ST.false c.if-mark-eq-LI.false
+    c.move_field-in_default-2.ensures ∙ ap (λ (l : List ℕ). move_field a.q a.p l (a.at + 6)) c.move_field-in_default.ensures
+    ∙ moved_spans _ _ c.requires.0 c.in_default.not-LT c.in_default.not-ST c.in_default.not-LI

@@ -9,8 +9,8 @@ use Rattle.records.proofs.moves.starts.Goals as goal
 pub field_at-requires : goal.field_at-requires
 field_at-requires c = omega (arith, room_six c.requires)
 
-pub returns-then-mark-eq-ST : goal.returns-then-mark-eq-ST
-returns-then-mark-eq-ST c = ap (leb c.args.place) c.field_at.ensures.0 ∙ is_start c.requires _ c.if-mark-eq-ST.true
+pub returns-in-ST : goal.returns-in-ST
+returns-in-ST c = ap (leb c.args.place) c.field_at.ensures.0 ∙ is_start c.requires _ c.in-ST.is
 
-pub returns : goal.returns
-returns c = no_start c.requires _ c.if-mark-eq-ST.false
+pub returns-in_default : goal.returns-in_default
+returns-in_default c = no_start c.requires _ c.in_default.not-ST
