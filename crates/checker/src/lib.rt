@@ -24,13 +24,13 @@ struct Stack {
 }
 
 impl Stack {
-    // place ≤ f ≤ t ≤ the source's length
+    // place ≤ f ≤ t ≤ the source's length, which is handed along and no field of the stack: it is the walk's, and no record changes it.
     #[tactic(auto, unfolding(rules::specs::WellFormed::spans))]
     #[inline]
-    fn spans(self, length: usize, f: usize, t: usize) -> bool
+    fn spans(self, length: usize, f: u32, t: u32) -> bool
         ensures { result ≡ rules.spans length (stack_of self) f t }
     {
-        (self.place <= f) & (f <= t) & (t <= length)
+        (self.place <= f as usize) & (f <= t) & (t as usize <= length)
     }
 
     // The n expressions on top become one.
@@ -139,10 +139,10 @@ impl Stack {
     // A statement begins: the one before is complete, and places rise.
     #[tactic(auto, unfolding(rules::specs::WellFormed::checked, rules::specs::WellFormed::given, rules::specs::WellFormed::allow, lexer::specs::Text::bytes))]
     #[inline]
-    fn to_statement(self, length: usize, p: usize) -> Option<Stack>
-        requires { p < 4294967296 }
+    fn to_statement(self, length: usize, p: u32) -> Option<Stack>
         ensures { checked_of result ≡ rules.checked length (stack_of self) (records.ST p) }
     {
+        let p = p as usize;
         if self.complete() & (self.floor <= p) & (p <= length) {
             return Some(Stack {
                 place: p,
@@ -157,7 +157,7 @@ impl Stack {
     }
 
     // One record more, and the number of its bytes: its mark's letters are a and b, and its other bytes are at the head of s. The size of
-    // each is a constant beside its tests: a number that depends on the mark made the check 1.7 times slower.
+    // each is a constant beside its tests: with a number that depends on the mark the check took 1.7 times as long.
     #[inline]
     fn check(self, a: u8, b: u8, s: &[u8], length: usize) -> Option<(Stack, usize)>
         requires { height_of self < 0x8000_0000_0000_0000 }
@@ -184,13 +184,13 @@ impl Stack {
                 whole(s, 16, good, self.to_operand(1))
             }
             Mark::OX => {
-                let d = field(s, 3);
+                let d = field(s, 3) as usize;
                 let good = ok & (field(s, 2) < 8) & (d < 2) & (field(s, 4) < 3) & (field(s, 5) < 5);
                 whole(s, 24, good, self.to_operand(d))
             }
             Mark::LL => whole(s, 8, ok, self.to_line(0, 0)),
             Mark::LI => {
-                let n = field(s, 3);
+                let n = field(s, 3) as usize;
                 let operands = self.spans(length, field(s, 4), field(s, 5));
                 whole(
                     s,
@@ -201,7 +201,7 @@ impl Stack {
             }
             Mark::LD => {
                 // the count is bounded by the bytes that are there
-                let count = field(s, 2);
+                let count = field(s, 2) as usize;
                 whole(s, 12 + count, ok & (0 < count), self.to_line(0, 0))
             }
             Mark::LC => whole(s, 8, ok, self.to_line(1, 0)),
@@ -215,19 +215,19 @@ impl Stack {
         requires { (at < ListN.length listing.now) × (height_of self < 0x8000_0000_0000_0000) }
         ensures { passed_of result ≡ next_pass length (stack_of self) (drop at listing.now) }
     {
-        if listing.len() - at < 2 {
+        let [a, b, rest @ ..] = &listing[at..] else {
             return None;
-        }
-        let from = at + 2;
-        self.check(listing[at], listing[at + 1], &listing[from..], length)
+        };
+        self.check(*a, *b, rest, length)
     }
 }
 
-// A field, or 0 where the bytes end before it does.
+// A field, or 0 where the bytes end before it does. No `Option`, which 17 calls would ask: `whole` refuses a record that is too short,
+// whatever its fields are taken for.
 #[tactic(auto, unfolding(crate::specs::Checker::field_in), using(records::proofs::Fields::field_nth))]
 #[inline]
-fn field(s: &[u8], i: u8) -> usize
-    ensures { (result ≡ field_in i s.now) × (result < 4294967296) }
+fn field(s: &[u8], i: u8) -> u32
+    ensures { result ≡ field_in i s.now }
 {
     let at = 4 * (i as usize);
     if s.len() < at + 4 { 0 } else { field_at(s, at) }

@@ -14,22 +14,22 @@ use lib.Dec.{eqb, ltb}
 use lib.ListN.{length, get_or, take, drop}
 use Rattle.lexer.specs.Text.{maybe, is}
 use Rattle.rules.specs.Lexemes.{Kind, word, number, quoted, mark, Lexeme}
-use Rattle.rules.specs.Records.{Record, VL, VS, VI, PF, IN, encode}
+use Rattle.rules.specs.Records.{VL, VS, VI, PF, IN}
 use Rattle.rules.specs.Reader.{Reader, Line, nowhere, ◌>>=◌, ◌>>◌, return, write, refuse, next, ahead, kind, passed, left, refuse_here, is_mark, expect}
 use Rattle.rules.specs.Expressions.{operator_of, left_level, right_level, prefix_level, character, atom_of, atom, primary, infixes, expr}
-use Rattle.std.specs.Prelude.{Some, None, Result, Ok, Err, IsErrAnd}
+use Rattle.std.specs.Prelude.{Some, None, Result, Ok, Err}
 use Rattle.lexer.specs.Scanned.{number_of as kind_number}
 use Rattle.lexer.specs.declared.Kind.{Kind as TokenKind}
 use Rattle.lexer.specs.declared.Kind.TheVariants as token
 use Rattle.records.specs.declared.Writer.{Writer}
-use Rattle.records.specs.Writers.{Puts}
 use Rattle.state.specs.declared.Parser.{Parser}
 use Rattle.refusals.specs.declared.Refusal.{Refusal}
 use Rattle.operators.specs.declared.Operator.{Operator}
 use Rattle.operators.specs.declared.Operator.TheVariants.{Add, Subtract, Multiply, Divide}
-use Rattle.state.specs.Views.{Plain, ends_line, kind_by, text_of, here_of, line_of, line, Gives, Denies, Comes, Level, On, Passes, PassesAs, Reads, ReadsAs}
+use Rattle.state.specs.Views.{Plain, ends_line, kind_by, text_of, here_of, line_of, line, Denies, Level, On, Passes, PassesAs, Reads, ReadsAs}
 use Rattle.operators.specs.Operators.{operator_number, prefix_level_of}
-use Rattle.state.proofs.Chain.{Sofar, starts, becomes, called_denied, comes, ends, still, writes, is_ahead, is_kind, reads_refused}
+use Rattle.state.proofs.Chain.{Sofar, starts, becomes, called_denied, comes, still, is_ahead, is_kind, lent_sofar, reads_refused_on}
+use Rattle.records.proofs.Writers.{same_still, same_on}
 use Rattle.state.proofs.Steps.{has_more}
 use Rattle.state.proofs.Flat.{by_kind, mark_is, plain}
 use Rattle.state.proofs.ByNumber.{number_tells}
@@ -103,29 +103,21 @@ no_sign Subtract e = cc
 no_sign Multiply e = refl
 no_sign Divide e = refl
 
--- `?` hands the same refusal on
-pub reads_handed : {L : Level} {s : List ℕ} {p : Parser} {m : Reader (On L) (Unit {0})} {o n : Writer} (r : Result Parser Refusal) {x : Refusal} → IsErrAnd r (λ y. y ≡ x) → Denies L s p m x
-    → Reads L s p m o n r
-reads_handed (Ok q) e h = absurd e
-reads_handed (Err y) e h = reads_refused (rw e h)
+-- what is called refuses, and so the reader does: one that writes nothing, and one that may have written
+module _ {L : Level} {s : List ℕ} {p q : Parser} {m : Reader (On L) (Unit {0})} {o n : Writer} {x : Refusal} where
+  pub passes_refused : {A : Type 0} (m₁ : Reader (On L) A) (k : A → Reader (On L) (Unit {0})) → Sofar L s p m o q (m₁ >>= k) n → Denies L s q m₁ x → Reads L s p m o n (Err x)
+  passes_refused m₁ k so h = reads_refused_on (lent_sofar so) (called_denied m₁ k so h)
+
+  pub called_refused : (m₁ : Reader (On L) (Unit {0})) (k : Unit {0} → Reader (On L) (Unit {0})) → Sofar L s p m o q (m₁ >>= k) n → {w : Writer} → Reads L s q m₁ n w (Err x) → Reads L s p m o w (Err x)
+  called_refused m₁ k so h = reads_refused_on (same_on (lent_sofar so) h.lent) (called_denied m₁ k so h.so)
 
 -- what writes nothing
 pub reads_passed : {L : Level} {s : List ℕ} {p : Parser} {m : Reader (On L) (Unit {0})} {o : Writer} {r : Result Parser Refusal} → Passes L s p m r → Reads L s p m o o r
-reads_passed {L} {s} {p} {m} {o} {r} h = record { so = go r h.so }
+reads_passed {L} {s} {p} {m} {o} {r} h = record { so = go r h.so; lent = same_still o }
   where
     go : (r : Result Parser Refusal) → PassesAs L s p m r → ReadsAs L s p m o o r
     go (Ok q) k = still o k
     go (Err x) k = k
-
--- past the token ahead, and a record
-module _ {s : List ℕ} {p q : Parser} {m : Reader Line (Unit {0})} {o w : Writer} (r : Record) (so : Sofar line s p m o q (next >> write r) w) where
-  pub token_writes : {q₂ : Parser} {w₂ : Writer} → Comes line s q next q₂ tt → Puts (encode r) w w₂ → Gives line s p m o w₂ q₂ tt
-  unfolding ◌>>◌
-  token_writes n h = ends (comes next (λ _. write r) so n) (writes r h)
-
-  pub token_denied : {x : Refusal} → Denies line s q next x → Denies line s p m x
-  unfolding ◌>>◌
-  token_denied n = called_denied next (λ _. write r) so n
 
 -- the token ahead is a mark, or it is not
 module _ {s : List ℕ} {p q : Parser} {m : Reader Line (Unit {0})} {o w : Writer} (a : Char) (h : Plain a) (m₁ m₂ : Reader Line (Unit {0}))

@@ -4,22 +4,24 @@
 ghost use Rattle.std.specs.Prelude.{◌≡◌, length};
 ghost use Rattle.std.proofs.Math.Option.{some};
 ghost use Rattle.rules.specs.Expressions as rules;
-ghost use Rattle.rules.specs.Lexemes.{number, mark};
+ghost use Rattle.rules.specs.Lexemes.{mark};
+ghost use Rattle.rules.specs.Records.{plain, encode};
+ghost use Rattle.records.specs.Marks.{letters_of};
 ghost use Rattle.lexer.specs.Scanned.{number_of as kind_number};
 ghost use Rattle.lexer.specs.declared.Kind.TheVariants as Kind;
-ghost use Rattle.state.specs.Views.{InLine, here_of, line_of, line, Reads};
+ghost use Rattle.state.specs.Views.{InLine, line_of, line, Reads};
 ghost use Rattle.operators.specs.Operators.{operator_number};
-ghost use Rattle.expressions.specs.Ahead.{number_in};
+ghost use Rattle.expressions.specs.Ahead.{number_in, TokenRecord};
 
 use lexer::Kind;
 use operators::Operator;
 use records::Writer;
 use records::marks::Mark;
-use refusals::{Reason, Refusal, refused_at};
+use refusals::{Reason, Refusal, refused_nowhere};
 use state::source::Source;
 use state::{Parser, expect, next, refuse_here, text};
 
-// The operator whose character is the token's kind.
+// The operator whose character is the token's kind. A question that most kinds answer with no, so no conversion.
 #[tactic(auto, unfolding(rules::specs::Expressions::operator_of, rules::specs::Reader::is_mark, lexer::specs::Text::is))]
 fn operator_of(kind: Kind) -> Option<Operator>
     ensures { number_in result ≡ rules.operator_of (mark (kind_number kind)) }
@@ -37,6 +39,8 @@ fn operator_of(kind: Kind) -> Option<Operator>
 pub const DEEPEST: u32 = 32;
 
 // An expression of operators that bind at least as tightly as `level`; `left` more levels may begin.
+// Source and writer go together through the readers and stay two parameters: a struct of both, lent to be written, would make each contract
+// say that the source stays, and many steps take the source alone.
 #[cycle(expressions)]
 pub fn expression(
     source: Source<'_>,
@@ -53,6 +57,14 @@ pub fn expression(
     let deeper = left - 1;
     let q = primary(source, out, p, deeper)?;
     infixes(source, out, q, level, p.token_start, deeper)
+}
+
+// An expression that stands in no other.
+#[tactic(auto, unfolding(rules::specs::Expressions::expression))]
+pub fn outermost(source: Source<'_>, out: &mut Writer<'_>, p: Parser) -> Result<Parser, Refusal>
+    ensures { Reads line source.entry.text.now p rules.expression out.old out.new result }
+{
+    expression(source, out, p, 0, DEEPEST)
 }
 
 // What an expression begins with: a parenthesis, a prefix operator or an atom.
@@ -109,7 +121,7 @@ fn prefixed(
 {
     let q = next(source, p)?;
     let Some(level) = op.prefix_level() else {
-        return Err(refused_at(Reason::InvalidPrefixOperator, 0, 0));
+        return Err(refused_nowhere(Reason::InvalidPrefixOperator));
     };
     let inner = expression(source, out, q, level, deeper)?;
     out.put_record(Mark::PF, [p.token_start, inner.last_token_end, op.number()]);
@@ -148,8 +160,8 @@ fn atom(source: Source<'_>, out: &mut Writer<'_>, p: Parser) -> Result<Parser, R
     ensures { Reads line source.entry.text.now p rules.atom out.old out.new result }
 {
     match p.kind {
-        Kind::Number => value(source, out, p, p.value),
-        Kind::Identifier => name(source, out, p),
+        Kind::Number => token_record(source, out, p, Mark::VC, [p.token_start, p.pos, p.value]),
+        Kind::Identifier => token_record(source, out, p, Mark::VL, [p.token_start, p.pos]),
         Kind::Dollar => dollar(source, out, p),
         Kind::ClosedString => character(source, out, p),
         Kind::UnclosedString => Err(refuse_here(p, Reason::ClosedStringExpected)),
@@ -157,23 +169,19 @@ fn atom(source: Source<'_>, out: &mut Writer<'_>, p: Parser) -> Result<Parser, R
     }
 }
 
-// Past the token ahead, which stands for the number `v`.
-fn value(source: Source<'_>, out: &mut Writer<'_>, p: Parser, v: u32) -> Result<Parser, Refusal>
+// Past the token ahead, for which one record is put.
+pub fn token_record<const N: usize>(
+    source: Source<'_>,
+    out: &mut Writer<'_>,
+    p: Parser,
+    mark: Mark,
+    fields: [u32; N],
+) -> Result<Parser, Refusal>
     requires { InLine p }
-    ensures { Reads line source.entry.text.now p (rules.atom_of (number v) (here_of source.entry.text.now p)) out.old out.new result }
+    ensures { TokenRecord source.entry.text.now p (encode (plain (letters_of mark) fields.entry)) out.old out.new result }
 {
     let q = next(source, p)?;
-    out.put_record(Mark::VC, [p.token_start, p.pos, v]);
-    Ok(q)
-}
-
-// A name; what it stands for is not asked.
-fn name(source: Source<'_>, out: &mut Writer<'_>, p: Parser) -> Result<Parser, Refusal>
-    requires { p.kind ≡ Kind.Identifier }
-    ensures { Reads line source.entry.text.now p rules.atom out.old out.new result }
-{
-    let q = next(source, p)?;
-    out.put_record(Mark::VL, [p.token_start, p.pos]);
+    out.put_record(mark, fields);
     Ok(q)
 }
 
@@ -182,8 +190,14 @@ fn character(source: Source<'_>, out: &mut Writer<'_>, p: Parser) -> Result<Pars
     requires { p.kind ≡ Kind.ClosedString }
     ensures { Reads line source.entry.text.now p rules.atom out.old out.new result }
 {
-    match text(source, p) {
-        [_, c, _] => value(source, out, p, *c as u32),
+    match text(source.text, p) {
+        [_, c, _] => token_record(
+            source,
+            out,
+            p,
+            Mark::VC,
+            [p.token_start, p.pos, u32::from(*c)],
+        ),
         _ => Err(refuse_here(p, Reason::OneCharacterExpected)),
     }
 }
@@ -194,11 +208,9 @@ fn dollar(source: Source<'_>, out: &mut Writer<'_>, p: Parser) -> Result<Parser,
     ensures { Reads line source.entry.text.now p rules.atom out.old out.new result }
 {
     let q = next(source, p)?;
-    if q.kind != Kind::Dollar {
-        out.put_record(Mark::VI, [p.token_start, p.pos]);
-        return Ok(q);
+    if q.kind == Kind::Dollar {
+        return token_record(source, out, q, Mark::VS, [p.token_start, p.pos]);
     }
-    let after = next(source, q)?;
-    out.put_record(Mark::VS, [p.token_start, p.pos]);
-    Ok(after)
+    out.put_record(Mark::VI, [p.token_start, p.pos]);
+    Ok(q)
 }

@@ -4,7 +4,7 @@
 ghost use Rattle.laqhoncu.specs.Counted.{count_from};
 ghost use Rattle.std.specs.Prelude.{◌≡◌, length, drop};
 ghost use Rattle.lexer.specs.Tokens.{token_at};
-ghost use Rattle.lexer.specs.Scanned.{next_of, kind_of_mark, kind_of_fault};
+ghost use Rattle.lexer.specs.Scanned.{next_of};
 ghost use Rattle.names.specs.Table.{operations};
 ghost use Rattle.names.specs.Names.{operation_named, found_of, name_of, directive_of};
 ghost use Rattle.rules.specs.Statements.{present};
@@ -19,7 +19,7 @@ ghost use Rattle.laqhoncu.specs.Found.{literal_found, token_found, next_found, o
 ghost use Rattle.laqhoncu.specs.Readings as readings;
 ghost use Rattle.laqhoncu.specs.Readings.{full_reading, FullReads, statement_reading, token_reading, patching, valuation, valued};
 
-use lexer::{BadNumber, Cursor, Fault, Kind, LiteralKind, PunctuationKind, Token};
+use lexer::{BadNumber, Cursor, Kind, LiteralKind, Token};
 use names::{Directive, Name};
 use operators::{EvaluateError, Operator};
 use patch::Patched;
@@ -33,35 +33,6 @@ pub struct TokenFound {
     pub kind: u8,
     pub value: i32,
     pub end: usize,
-}
-
-// Both kinds are the lexer's, so that a `From` can't stand here, as for a fault below.
-fn punctuation(k: PunctuationKind) -> Kind
-    ensures { result ≡ kind_of_mark k }
-{
-    match k {
-        PunctuationKind::CloseBracket => Kind::CloseBracket,
-        PunctuationKind::CloseParenthesis => Kind::CloseParenthesis,
-        PunctuationKind::Colon => Kind::Colon,
-        PunctuationKind::Comma => Kind::Comma,
-        PunctuationKind::Dollar => Kind::Dollar,
-        PunctuationKind::Dot => Kind::Dot,
-        PunctuationKind::ForwardSlash => Kind::ForwardSlash,
-        PunctuationKind::Minus => Kind::Minus,
-        PunctuationKind::OpenBracket => Kind::OpenBracket,
-        PunctuationKind::OpenParenthesis => Kind::OpenParenthesis,
-        PunctuationKind::Plus => Kind::Plus,
-        PunctuationKind::Star => Kind::Star,
-    }
-}
-
-fn fault_kind(f: Fault) -> Kind
-    ensures { result ≡ kind_of_fault f }
-{
-    match f {
-        Fault::LargerDigit => Kind::LargerDigit,
-        Fault::TooLarge => Kind::TooLarge,
-    }
 }
 
 impl TokenFound {
@@ -102,7 +73,7 @@ impl From<(Token, Cursor)> for TokenFound {
             Token::Whitespace(_) => TokenFound::plain(Kind::Whitespace, end),
             Token::Identifier(_) => TokenFound::plain(Kind::Identifier, end),
             Token::Literal(_, k) => TokenFound::literal(k, end),
-            Token::Punctuation(_, k) => TokenFound::plain(punctuation(k), end),
+            Token::Punctuation(_, k) => TokenFound::plain(k.into(), end),
             Token::Comment(_) => TokenFound::plain(Kind::Comment, end),
             Token::NewLine(_) => TokenFound::plain(Kind::NewLine, end),
             Token::EndOfFile(_) => TokenFound::plain(Kind::EndOfFile, end),
@@ -117,7 +88,7 @@ impl From<Result<(Token, Cursor), BadNumber>> for TokenFound {
     fn from(next: Result<(Token, Cursor), BadNumber>) -> TokenFound {
         match next {
             Ok(read) => read.into(),
-            Err(bad) => TokenFound::plain(fault_kind(bad.fault), bad.to),
+            Err(bad) => TokenFound::plain(bad.fault.into(), bad.to),
         }
     }
 }
@@ -173,7 +144,8 @@ pub struct Numbers {
     pub second: u32,
 }
 
-// Number 0, and how many bytes were written; or the refusal, and 0.
+// Number 0, and how many bytes were written; or the refusal, and 0. C has no Result, and the header names each answer's struct and its fields: so
+// these are structs of their own, and no one struct over the type of what is answered.
 #[repr(C)]
 #[derive(Clone, Copy)]
 pub struct FullReading {
@@ -389,12 +361,8 @@ impl From<Result<i32, EvaluateError>> for Valuation {
                 refusal: numbered(ACCEPTED),
                 value,
             },
-            Err(EvaluateError::Beyond32Bits) => Valuation {
-                refusal: numbered(Reason::Beyond32Bits.number()),
-                value: 0,
-            },
-            Err(EvaluateError::ZeroDivisor) => Valuation {
-                refusal: numbered(Reason::ZeroDivisor.number()),
+            Err(e) => Valuation {
+                refusal: numbered(Reason::from(e).number()),
                 value: 0,
             },
         }
@@ -415,8 +383,8 @@ pub fn laqhoncu_evaluate(operator: u8, left: i32, right: i32) -> Valuation
     }
 }
 
-// How many tokens a source has, whitespace and comments among them. Each begins where the one before it ends, which a loop says as plainly
-// as an iterator.
+// How many tokens a source has, whitespace, comments and refused numbers among them. Each begins where the one before it ends, which a loop says as
+// plainly as an iterator.
 pub fn laqhoncu_count(source: &[u8]) -> usize
     ensures { result ≡ count_from 0 source.now }
 {

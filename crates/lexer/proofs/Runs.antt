@@ -14,7 +14,9 @@ use lib.Seq.{drop-cons}
 use borrow.Author.Tests.{eqb-true, eqb-false, le-leb, lt-leb, leb-true, lt-ltb, le-ltb}
 use Rattle.lexer.specs.Text.{within, is_digit, is_hex_digit, run, all, digit, value_from, open_text}
 use Rattle.lexer.specs.Tokens.{largest}
-use Rattle.lexer.specs.Runs.{valued_from}
+use Rattle.lexer.specs.Runs.{radix, valued_from}
+use Rattle.lexer.specs.declared.characters.Base.{Base}
+use Rattle.lexer.specs.declared.characters.Base.TheVariants as base
 use Rattle.std.specs.Prelude.{None, Some}
 
 pub both : (a b : Bool) → (a && b) ≡ true → (a ≡ true) × (b ≡ true)
@@ -95,6 +97,12 @@ value_ge v base (d ∷ ds) h =
     let grown : v ≤ v * base = le-mul_of_pos_right v (omega arith) in
     let step : v ≤ v * base + digit d = omega arith in
     le_trans step (value_ge (v * base + digit d) base ds h)
+
+pub radix_within : (b : Base) → (1 ≤ radix b) × (radix b ≤ 16)
+radix_within base.Binary = (omega arith, omega arith)
+radix_within base.Octal = (omega arith, omega arith)
+radix_within base.Decimal = (omega arith, omega arith)
+radix_within base.Hexadecimal = (omega arith, omega arith)
 
 module _ (v base : ℕ) where
   pub valued_more : (c : ℕ) (cs : List ℕ) → digit c < base → valued_from v base (c ∷ cs) ≡ valued_from (v * base + digit c) base cs

@@ -10,9 +10,9 @@ use lib.Dec.{eqb, leb, ltb}
 use lib.ListN.{length, get_or, take, drop, length-drop, drop_of_length-le}
 use lib.Seq.{drop-cons, drop-drop, get_or-drop}
 use borrow.Author.Tests.{eq-eqb, ne_eqb, eqb-true, lt-ltb, not-true}
-use Rattle.lexer.specs.Text.{is, any_of, is_blank, is_digit, is_hex_digit, is_letter, is_word_part, within, run, all, last, digit, value_from, open_text}
+use Rattle.lexer.specs.Text.{is, any_of, is_blank, is_digit, is_hex_digit, is_letter, is_word_part, run, all, last, digit, value_from, open_text}
 use Rattle.lexer.specs.Tokens.{largest, numeral, stray, prefixed, digits, suffix_behind, suffix_last, in_base, suffixed, number_with, number_at, in_quotes, string_after, in_comment, mark_at, token_with, token_at, open_tokens}
-use Rattle.lexer.specs.Runs.{valued_from, up_to_one, are_hex_digits, after_zero}
+use Rattle.lexer.specs.Runs.{valued_from, up_to_one, are_hex_digits}
 use Rattle.lexer.specs.Scanned.{scanned_of, single}
 use Rattle.lexer.specs.declared.Kind.{Kind}
 use Rattle.lexer.specs.declared.Kind.TheVariants as kind
@@ -25,7 +25,7 @@ use Rattle.std.specs.Prelude.{Option, None, Some, IfSome}
 use Rattle.lexer.proofs.Branches.{branch, alike, or_split}
 use Rattle.lexer.proofs.Runs.{below, below_all, run_le, run_all, run_ends}
 
-abbrev flat : Kind → ℕ → ℕ → Scanned
+abbrev pub flat : Kind → ℕ → ℕ → Scanned
 flat k v e = record { kind = k; value = v; end = e }
 
 -- a place at which a byte is read that is not 0 lies within
@@ -287,9 +287,6 @@ zero_plain unprefixed c [] z b o k x = refl
 zero_plain unprefixed c (d ∷ ds) z b o k x = rw (z, ne_eqb d 98 b, ne_eqb d 111 o, ne_eqb d 100 k, ne_eqb d 120 x)
 
 module _ (c : ℕ) (s : List ℕ) (at : ℕ) where
-  abbrev second : ℕ
-  second = after_zero c (get_or s (at + 1) 0)
-
   head_is : get_or (drop (suc at) s) 0 0 ≡ get_or s (at + 1) 0
   head_is =
       let place : suc at + 0 ≡ at + 1 = omega arith in
@@ -300,41 +297,17 @@ module _ (c : ℕ) (s : List ℕ) (at : ℕ) where
       let place : suc at + 1 ≡ at + 2 = omega arith in
       drop-drop 1 (suc at) s ∙ ap (λ k. drop k s) place
 
-  prefix_is : (x : ℕ) → second ≡ suc x → number_at c (drop (suc at) s) ≡ number_at 48 (suc x ∷ drop (at + 2) s)
-  unfolding is
-  prefix_is x q = go (eqb c 48) refl q
-    where
-      go : (t : Bool) → eqb c 48 ≡ t → (if t then get_or s (at + 1) 0 else 0) ≡ suc x → number_at c (drop (suc at) s) ≡ number_at 48 (suc x ∷ drop (at + 2) s)
-      go true z q = zero_then c (drop (suc at) s) x (eqb-true c 48 z) (head_is ∙ q) ∙ ap (λ l. number_at 48 (suc x ∷ l)) rest_is
-      go false z q = absurd (omega arith)
+  -- the letter suc x is that of a prefix, and what stands behind it is read so
+  pub number_prefixed : (p : ℕ → Bool) (base x : ℕ) {r : Scanned} → number_at 48 (suc x ∷ drop (at + 2) s) ≡ prefixed base p (drop (at + 2) s)
+      → c ≡ 48 → get_or s (at + 1) 0 ≡ suc x → r ≡ scanned_of at (prefixed base p (drop (at + 2) s)) → r ≡ scanned_of at (number_at c (drop (suc at) s))
+  number_prefixed p base x e z q h =
+      h ∙ ap (scanned_of at) (sym (zero_then c (drop (suc at) s) x z (head_is ∙ q) ∙ ap (λ l. number_at 48 (suc x ∷ l)) rest_is ∙ e))
 
-  pub number_binary : second ≡ 98 → number_at c (drop (suc at) s) ≡ prefixed 2 (within "0" "1") (drop (at + 2) s)
-  unfolding number_with is
-  number_binary q = prefix_is 97 q
-
-  pub number_octal : second ≡ 111 → number_at c (drop (suc at) s) ≡ prefixed 8 (within "0" "7") (drop (at + 2) s)
-  unfolding number_with is
-  number_octal q = prefix_is 110 q
-
-  pub number_decimal : second ≡ 100 → number_at c (drop (suc at) s) ≡ prefixed 10 is_digit (drop (at + 2) s)
-  unfolding number_with is
-  number_decimal q = prefix_is 99 q
-
-  pub number_hexadecimal : second ≡ 120 → number_at c (drop (suc at) s) ≡ prefixed 16 is_hex_digit (drop (at + 2) s)
-  unfolding number_with is
-  number_hexadecimal q = prefix_is 119 q
-
-  pub number_plain : (second ≡ 98 → ⊥) → (second ≡ 111 → ⊥) → (second ≡ 100 → ⊥) → (second ≡ 120 → ⊥) → number_at c (drop (suc at) s) ≡ suffixed c (drop (suc at) s)
-  unfolding is
-  number_plain b o k x = go (eqb c 48) refl b o k x
-    where
-      go : (t : Bool) → eqb c 48 ≡ t →
-          let d = if t then get_or s (at + 1) 0 else 0 in
-          (d ≡ 98 → ⊥) → (d ≡ 111 → ⊥) → (d ≡ 100 → ⊥) → (d ≡ 120 → ⊥) → number_at c (drop (suc at) s) ≡ suffixed c (drop (suc at) s)
-      go true z b o k x =
-          let e = sym head_is in
-          zero_plain suffixed c (drop (suc at) s) (eqb-true c 48 z) (λ q. b (e ∙ q)) (λ q. o (e ∙ q)) (λ q. k (e ∙ q)) (λ q. x (e ∙ q))
-      go false z b o k x = number_other suffixed c (drop (suc at) s) z
+  pub number_plain : c ≡ 48 → (get_or s (at + 1) 0 ≡ 98 → ⊥) → (get_or s (at + 1) 0 ≡ 111 → ⊥) → (get_or s (at + 1) 0 ≡ 100 → ⊥) → (get_or s (at + 1) 0 ≡ 120 → ⊥)
+      → number_at c (drop (suc at) s) ≡ suffixed c (drop (suc at) s)
+  number_plain z b o k x =
+      let e = sym head_is in
+      zero_plain suffixed c (drop (suc at) s) z (λ q. b (e ∙ q)) (λ q. o (e ∙ q)) (λ q. k (e ∙ q)) (λ q. x (e ∙ q))
 
 same : (a b : Bool) → beq a b ≡ true → a ≡ b
 same true true e = refl

@@ -92,6 +92,10 @@ value_of (Refused n f) = 0
 abbrev pub scanned_of : ℕ → TokenRead → Scanned
 scanned_of at t = record { kind = kind_of t; value = value_of t; end = at + size_of t }
 
+-- a token of a kind that has no value
+abbrev pub plain : Kind → ℕ → Scanned
+plain k e = record { kind = k; value = 0; end = e }
+
 -- what the cursor at a place answers: the token and the cursor behind it, or the refusal and its span
 abbrev pub next_of : ℕ → TokenRead → Result (Token × Cursor) BadNumber
 next_of at (Read t) = Ok (t, record { pos = at + length_of t })

@@ -3,26 +3,30 @@
 
 ghost use Rattle.std.specs.Prelude.{◌≡◌, Bool, true, ℕ, suc, ◌+◌, ◌-◌, ◌≤◌, ◌<◌, length, take, drop, get_or};
 ghost use Rattle.lexer.specs.Text.{is_digit, is_hex_digit, digit, run};
-ghost use Rattle.lexer.specs.Tokens.{token_at, number_at, suffixed, prefixed, digits};
-ghost use Rattle.lexer.specs.Runs.{are_hex_digits, after_zero};
-ghost use Rattle.lexer.specs.Scanned.{number_of, scanned_of, token_of, next_of};
+ghost use Rattle.lexer.specs.Tokens.{fault_number, token_at, number_at, suffixed, prefixed, digits};
+ghost use Rattle.lexer.specs.Runs.{radix, are_hex_digits};
+ghost use Rattle.lexer.specs.Scanned.{number_of, kind_of_mark, kind_of_fault, scanned_of, plain, token_of, next_of};
+ghost use Rattle.refusals.specs.Refusals.{number_of as reason_number};
 
 use characters::{
-    char_at, from_radix, is_at_most_one, is_binary_digit, is_decimal_digit, is_hexadecimal_digit,
-    is_identifier, is_identifier_first, is_letter, is_octal_digit, is_quoted, is_remark,
-    is_whitespace, run_end,
+    Base, from_radix, is_at_most_one, is_binary_digit, is_decimal_digit, is_hexadecimal_digit,
+    is_identifier, is_identifier_first, is_octal_digit, is_quoted, is_remark, is_whitespace,
+    run_end,
 };
+use refusals::Reason;
 use single::single;
 
 mod characters;
 mod single;
 
+// A text is one variant with a flag that says whether it is closed, as `quoted` in the definitions (`rules/specs/Lexemes.antt`) has it.
 #[derive(Clone, Copy)]
 pub enum LiteralKind {
     Number(i32),
     Text(bool),
 }
 
+// The original's token has this kind in it, and `Kind` is the one byte that readers compare, so both stand.
 #[derive(Clone, Copy)]
 pub enum PunctuationKind {
     CloseBracket,
@@ -51,15 +55,16 @@ pub enum Token {
     Invalid(usize, u8),
 }
 
-// Why a number is refused: 30, a binary one with a larger digit; 31, a prefixed one above 2147483647.
+// Why a number is refused: 30, a binary one with a larger digit; 31, a prefixed one above 2147483647. `BadNumber` and the
+// definitions have it; `Kind` is the byte that readers compare.
 #[derive(Clone, Copy, PartialEq, Eq)]
 pub enum Fault {
     LargerDigit,
     TooLarge,
 }
 
-// A token, or a number that is refused, with its length: what the definitions give. No Result: the laws of `rules` go by these cases, and
-// an `Err` of a length and a fault would make none of them plainer.
+// A token, or a number that is refused, with its length: what the definitions give, and no function. As a Result its second case would be
+// the Err of a pair, which names neither the length nor why.
 #[derive(Clone, Copy)]
 pub enum TokenRead {
     Read(Token),
@@ -96,7 +101,7 @@ pub enum Kind {
 }
 
 impl Kind {
-    // The number that C takes.
+    // The number that C takes. A method and no `From`, so that a caller's line says what the u8 is.
     #[inline]
     pub fn number(self) -> u8
         ensures { result ≡ number_of self }
@@ -105,8 +110,51 @@ impl Kind {
     }
 }
 
+impl From<PunctuationKind> for Kind {
+    ghost from_gives = { λ p k. k ≡ kind_of_mark p };
+
+    fn from(p: PunctuationKind) -> Kind {
+        match p {
+            PunctuationKind::CloseBracket => Kind::CloseBracket,
+            PunctuationKind::CloseParenthesis => Kind::CloseParenthesis,
+            PunctuationKind::Colon => Kind::Colon,
+            PunctuationKind::Comma => Kind::Comma,
+            PunctuationKind::Dollar => Kind::Dollar,
+            PunctuationKind::Dot => Kind::Dot,
+            PunctuationKind::ForwardSlash => Kind::ForwardSlash,
+            PunctuationKind::Minus => Kind::Minus,
+            PunctuationKind::OpenBracket => Kind::OpenBracket,
+            PunctuationKind::OpenParenthesis => Kind::OpenParenthesis,
+            PunctuationKind::Plus => Kind::Plus,
+            PunctuationKind::Star => Kind::Star,
+        }
+    }
+}
+
+impl From<Fault> for Kind {
+    ghost from_gives = { λ f k. k ≡ kind_of_fault f };
+
+    fn from(f: Fault) -> Kind {
+        match f {
+            Fault::LargerDigit => Kind::LargerDigit,
+            Fault::TooLarge => Kind::TooLarge,
+        }
+    }
+}
+
+impl From<Fault> for Reason {
+    ghost from_gives = { λ f r. reason_number r ≡ fault_number f };
+
+    fn from(f: Fault) -> Reason {
+        match f {
+            Fault::LargerDigit => Reason::BinaryLargerDigit,
+            Fault::TooLarge => Reason::PrefixedTooLarge,
+        }
+    }
+}
+
 // A token where it was scanned: its kind, a number's value, the byte of an invalid token, and else 0, and the place behind it. The value
-// stands beside the kind, since two kinds of 23 have one and readers ask for the kind.
+// stands beside the kind: a kind with its value in it costs half the speed.
 #[derive(Clone, Copy)]
 pub struct Scanned {
     pub kind: Kind,
@@ -114,21 +162,76 @@ pub struct Scanned {
     pub end: usize,
 }
 
-// The digits of a base behind the prefix that stands at `at`, up to before `end`.
-fn number_literal_with_prefix(source: &[u8], at: usize, base: u64, end: usize) -> Scanned
-    requires { (at < length source.now) × (1 ≤ base) × (base ≤ 16) × ((p : ℕ → Bool) × (end ≡ at + 2 + run p (drop (at + 2) source.now))
-        × ((c : ℕ) → p c ≡ true → (is_hex_digit c ≡ true) × (digit c < base))) }
-    ensures { (p : ℕ → Bool) → end ≡ at + 2 + run p (drop (at + 2) source.now)
-        → ((c : ℕ) → p c ≡ true → (is_hex_digit c ≡ true) × (digit c < base))
-        → result ≡ scanned_of at (prefixed base p (drop (at + 2) source.now)) }
+impl Scanned {
+    // A token of a kind that has no value, and the zero that a prefix alone is.
+    #[inline]
+    fn plain(kind: Kind, end: usize) -> Scanned
+        ensures { result ≡ plain kind end }
+    {
+        Scanned {
+            kind,
+            value: 0,
+            end,
+        }
+    }
+
+    // The token of n bytes that it stands for, or why it is refused. A scan's values are below the remainders' divisors, which only say so
+    // to the casts.
+    #[tactic(auto, unfolding(crate::specs::Scanned::token_of))]
+    fn token(self, n: usize) -> Result<Token, Fault>
+        ensures { result ≡ token_of self.kind self.value n }
+    {
+        Ok(match self.kind {
+            Kind::EndOfFile => Token::EndOfFile(n),
+            Kind::NewLine => Token::NewLine(n),
+            Kind::LargerDigit => return Err(Fault::LargerDigit),
+            Kind::TooLarge => return Err(Fault::TooLarge),
+            Kind::Whitespace => Token::Whitespace(n),
+            Kind::Invalid => Token::Invalid(n, (self.value % 256) as u8),
+            Kind::UnclosedString => Token::Literal(n, LiteralKind::Text(false)),
+            Kind::Dollar => Token::Punctuation(n, PunctuationKind::Dollar),
+            Kind::ClosedString => Token::Literal(n, LiteralKind::Text(true)),
+            Kind::OpenParenthesis => Token::Punctuation(n, PunctuationKind::OpenParenthesis),
+            Kind::CloseParenthesis => Token::Punctuation(n, PunctuationKind::CloseParenthesis),
+            Kind::Star => Token::Punctuation(n, PunctuationKind::Star),
+            Kind::Plus => Token::Punctuation(n, PunctuationKind::Plus),
+            Kind::Comma => Token::Punctuation(n, PunctuationKind::Comma),
+            Kind::Minus => Token::Punctuation(n, PunctuationKind::Minus),
+            Kind::Dot => Token::Punctuation(n, PunctuationKind::Dot),
+            Kind::ForwardSlash => Token::Punctuation(n, PunctuationKind::ForwardSlash),
+            Kind::Number => Token::Literal(
+                n,
+                LiteralKind::Number((self.value % 2147483648) as i32),
+            ),
+            Kind::Colon => Token::Punctuation(n, PunctuationKind::Colon),
+            Kind::Comment => Token::Comment(n),
+            Kind::OpenBracket => Token::Punctuation(n, PunctuationKind::OpenBracket),
+            Kind::CloseBracket => Token::Punctuation(n, PunctuationKind::CloseBracket),
+            Kind::Identifier => Token::Identifier(n),
+        })
+    }
+}
+
+// The digits of a base, told by `belongs`, behind the prefix that stands at `at`. It is made anew for each base, as `run_end` is.
+// Source and place stay two parameters, here and below: with a struct of what is left and a ghost field, and patterns of its first bytes in
+// `number`, tokens took 3 to 8 % longer.
+fn number_literal_with_prefix<F: Fn(u8) -> bool>(
+    source: &[u8],
+    at: usize,
+    base: Base,
+    belongs: F,
+) -> Scanned
+    requires { (at < length source.now) × (F.IsAlwaysCallable belongs
+        × ((p : ℕ → Bool) × ((c : ℕ) (r : Bool) → c < 256 → F.post belongs c r → r ≡ p c)
+        × ((c : ℕ) → p c ≡ true → (is_hex_digit c ≡ true) × (digit c < radix base)))) }
+    ensures { (p : ℕ → Bool) → ((c : ℕ) (r : Bool) → c < 256 → F.post belongs c r → r ≡ p c)
+        → ((c : ℕ) → p c ≡ true → (is_hex_digit c ≡ true) × (digit c < radix base))
+        → result ≡ scanned_of at (prefixed (radix base) p (drop (at + 2) source.now)) }
 {
     let from = at + 2;
+    let end = run_end(source, from, belongs);
     if end == from {
-        return Scanned {
-            kind: Kind::Number,
-            value: 0,
-            end: at + 1,
-        };
+        return Scanned::plain(Kind::Number, at + 1);
     }
     match from_radix(&source[from..end], base) {
         Some(value) => Scanned {
@@ -136,19 +239,15 @@ fn number_literal_with_prefix(source: &[u8], at: usize, base: u64, end: usize) -
             value,
             end,
         },
-        None => Scanned {
-            kind: Kind::TooLarge,
-            value: 0,
-            end,
-        },
+        None => Scanned::plain(Kind::TooLarge, end),
     }
 }
 
 // The digits from `at` to before `to`, as a literal that ends at `end`.
-fn number_literal(source: &[u8], at: usize, to: usize, base: u64, end: usize) -> Scanned
-    requires { (at ≤ to) × (to ≤ length source.now) × (at < length source.now) × (1 ≤ base) × (base ≤ 16) × (at ≤ end)
+fn number_literal(source: &[u8], at: usize, to: usize, base: Base, end: usize) -> Scanned
+    requires { (at ≤ to) × (to ≤ length source.now) × (at < length source.now) × (at ≤ end)
         × (are_hex_digits source.now at to ≡ true) }
-    ensures { result ≡ scanned_of at (digits (get_or source.now at 0) base (take (to - at) (drop at source.now)) (end - at)) }
+    ensures { result ≡ scanned_of at (digits (get_or source.now at 0) (radix base) (take (to - at) (drop at source.now)) (end - at)) }
 {
     match from_radix(&source[at..to], base) {
         Some(v) => Scanned {
@@ -158,7 +257,7 @@ fn number_literal(source: &[u8], at: usize, to: usize, base: u64, end: usize) ->
         },
         None => Scanned {
             kind: Kind::Invalid,
-            value: source[at] as u32,
+            value: u32::from(source[at]),
             end: at + 1,
         },
     }
@@ -170,41 +269,23 @@ fn number_literal_with_suffix(source: &[u8], at: usize) -> Scanned
     ensures { result ≡ scanned_of at (suffixed (get_or source.now at 0) (drop (suc at) source.now)) }
 {
     let end = run_end(source, at, is_hexadecimal_digit);
-    let after = char_at(source, end);
-    if is_letter(after, b'o', b'O') {
-        return number_literal(source, at, end, 8, end + 1);
-    }
-    if is_letter(after, b'h', b'H') {
-        return number_literal(source, at, end, 16, end + 1);
+    match source.get(end) {
+        Some(b'o' | b'O') => return number_literal(source, at, end, Base::Octal, end + 1),
+        Some(b'h' | b'H') => return number_literal(source, at, end, Base::Hexadecimal, end + 1),
+        _ => {}
     }
     let last = end - 1;
-    let suffix = source[last];
-    if is_letter(suffix, b'b', b'B') {
-        if run_end(source, at, is_at_most_one) < last {
-            return Scanned {
-                kind: Kind::LargerDigit,
-                value: 0,
-                end,
-            };
+    match source[last] {
+        b'b' | b'B' => {
+            if run_end(source, at, is_at_most_one) < last {
+                return Scanned::plain(Kind::LargerDigit, end);
+            }
+            return number_literal(source, at, last, Base::Binary, end);
         }
-        return number_literal(source, at, last, 2, end);
+        b'd' | b'D' => return number_literal(source, at, last, Base::Decimal, end),
+        _ => {}
     }
-    if is_letter(suffix, b'd', b'D') {
-        return number_literal(source, at, last, 10, end);
-    }
-    number_literal(source, at, end, 10, end)
-}
-
-// The byte behind a leading zero, or 0.
-fn after_zero(source: &[u8], at: usize, first: u8) -> u8
-    requires { at < length source.now }
-    ensures { result ≡ after_zero first (get_or source.now (at + 1) 0) }
-{
-    if first == b'0' {
-        char_at(source, at + 1)
-    } else {
-        0
-    }
+    number_literal(source, at, end, Base::Decimal, end)
 }
 
 // The number that begins with the digit `first`.
@@ -212,125 +293,74 @@ fn number(source: &[u8], at: usize, first: u8) -> Scanned
     requires { (at < length source.now) × (first ≡ get_or source.now at 0) × (is_digit first ≡ true) }
     ensures { result ≡ scanned_of at (number_at first (drop (suc at) source.now)) }
 {
-    match after_zero(source, at, first) {
-        b'b' => number_literal_with_prefix(source, at, 2, run_end(source, at + 2, is_binary_digit)),
-        b'o' => number_literal_with_prefix(source, at, 8, run_end(source, at + 2, is_octal_digit)),
-        b'd' => number_literal_with_prefix(
-            source,
-            at,
-            10,
-            run_end(source, at + 2, is_decimal_digit),
-        ),
-        b'x' => number_literal_with_prefix(
-            source,
-            at,
-            16,
-            run_end(source, at + 2, is_hexadecimal_digit),
-        ),
-        _ => number_literal_with_suffix(source, at),
+    if first == b'0' {
+        match source.get(at + 1) {
+            Some(b'b') => return number_literal_with_prefix(
+                source,
+                at,
+                Base::Binary,
+                is_binary_digit,
+            ),
+            Some(b'o') => return number_literal_with_prefix(
+                source,
+                at,
+                Base::Octal,
+                is_octal_digit,
+            ),
+            Some(b'd') => return number_literal_with_prefix(
+                source,
+                at,
+                Base::Decimal,
+                is_decimal_digit,
+            ),
+            Some(b'x') => return number_literal_with_prefix(
+                source,
+                at,
+                Base::Hexadecimal,
+                is_hexadecimal_digit,
+            ),
+            _ => {}
+        }
     }
+    number_literal_with_suffix(source, at)
 }
 
-// The token at a place; beyond the end, the end of file. The tests stand in the order of how often each is met.
+// The token at a place; beyond the end, the end of file. The tests stand in the order of how often each is met, and each returns: with a
+// token that is the value of a match within a match, all tokens took a quarter longer.
 pub fn scan(source: &[u8], at: usize) -> Scanned
     ensures { result ≡ scanned_of at (token_at (drop at source.now)) }
 {
     if source.len() <= at {
-        return Scanned {
-            kind: Kind::EndOfFile,
-            value: 0,
-            end: at,
-        };
+        return Scanned::plain(Kind::EndOfFile, at);
     }
     let c = source[at];
     if is_whitespace(c) {
-        let end = run_end(source, at + 1, is_whitespace);
-        return Scanned {
-            kind: Kind::Whitespace,
-            value: 0,
-            end,
-        };
+        return Scanned::plain(Kind::Whitespace, run_end(source, at + 1, is_whitespace));
     }
     if is_identifier_first(c) {
-        let end = run_end(source, at + 1, is_identifier);
-        return Scanned {
-            kind: Kind::Identifier,
-            value: 0,
-            end,
-        };
+        return Scanned::plain(Kind::Identifier, run_end(source, at + 1, is_identifier));
     }
     if is_decimal_digit(c) {
         return number(source, at, c);
     }
     if let Some(kind) = single(c) {
-        return Scanned {
-            kind,
-            value: 0,
-            end: at + 1,
-        };
+        return Scanned::plain(kind, at + 1);
     }
     if c == b';' {
-        let end = run_end(source, at + 1, is_remark);
-        return Scanned {
-            kind: Kind::Comment,
-            value: 0,
-            end,
-        };
+        return Scanned::plain(Kind::Comment, run_end(source, at + 1, is_remark));
     }
     if c == b'\'' {
         let end = run_end(source, at + 1, is_quoted);
-        let after = char_at(source, end);
-        if after == b'\'' {
-            return Scanned {
-                kind: Kind::ClosedString,
-                value: 0,
-                end: end + 1,
-            };
+        if let Some(b'\'') = source.get(end) {
+            return Scanned::plain(Kind::ClosedString, end + 1);
         }
-        return Scanned {
-            kind: Kind::UnclosedString,
-            value: 0,
-            end,
-        };
+        return Scanned::plain(Kind::UnclosedString, end);
     }
     Scanned {
         kind: Kind::Invalid,
-        value: c as u32,
+        value: u32::from(c),
         end: at + 1,
     }
-}
-
-// The token of n bytes that a kind and a value stand for, or why it is refused. A scan's values are below the remainders' divisors, which
-// only say so to the casts.
-#[tactic(auto, unfolding(crate::specs::Scanned::token_of))]
-fn token_of(kind: Kind, value: u32, n: usize) -> Result<Token, Fault>
-    ensures { result ≡ token_of kind value n }
-{
-    Ok(match kind {
-        Kind::EndOfFile => Token::EndOfFile(n),
-        Kind::NewLine => Token::NewLine(n),
-        Kind::LargerDigit => return Err(Fault::LargerDigit),
-        Kind::TooLarge => return Err(Fault::TooLarge),
-        Kind::Whitespace => Token::Whitespace(n),
-        Kind::Invalid => Token::Invalid(n, (value % 256) as u8),
-        Kind::UnclosedString => Token::Literal(n, LiteralKind::Text(false)),
-        Kind::Dollar => Token::Punctuation(n, PunctuationKind::Dollar),
-        Kind::ClosedString => Token::Literal(n, LiteralKind::Text(true)),
-        Kind::OpenParenthesis => Token::Punctuation(n, PunctuationKind::OpenParenthesis),
-        Kind::CloseParenthesis => Token::Punctuation(n, PunctuationKind::CloseParenthesis),
-        Kind::Star => Token::Punctuation(n, PunctuationKind::Star),
-        Kind::Plus => Token::Punctuation(n, PunctuationKind::Plus),
-        Kind::Comma => Token::Punctuation(n, PunctuationKind::Comma),
-        Kind::Minus => Token::Punctuation(n, PunctuationKind::Minus),
-        Kind::Dot => Token::Punctuation(n, PunctuationKind::Dot),
-        Kind::ForwardSlash => Token::Punctuation(n, PunctuationKind::ForwardSlash),
-        Kind::Number => Token::Literal(n, LiteralKind::Number((value % 2147483648) as i32)),
-        Kind::Colon => Token::Punctuation(n, PunctuationKind::Colon),
-        Kind::Comment => Token::Comment(n),
-        Kind::OpenBracket => Token::Punctuation(n, PunctuationKind::OpenBracket),
-        Kind::CloseBracket => Token::Punctuation(n, PunctuationKind::CloseBracket),
-        Kind::Identifier => Token::Identifier(n),
-    })
 }
 
 // Why a number is refused, and its span.
@@ -348,6 +378,7 @@ pub struct Cursor {
 }
 
 impl Cursor {
+    // At the source's start.
     pub fn new() -> Cursor
         ensures { result.pos ≡ 0 }
     {
@@ -359,8 +390,9 @@ impl Cursor {
         ensures { result ≡ next_of self.pos (token_at (drop self.pos source.now)) }
     {
         let from = self.pos;
-        let Scanned { kind, value, end } = scan(source, from);
-        match token_of(kind, value, end - from) {
+        let scanned = scan(source, from);
+        let end = scanned.end;
+        match scanned.token(end - from) {
             Ok(token) => Ok((token, Cursor { pos: end })),
             Err(fault) => Err(BadNumber {
                 fault,
@@ -375,12 +407,6 @@ impl Cursor {
 pub fn source_at(source: &[u8], start: usize, len: usize) -> &[u8]
     ensures { result.now ≡ take len (drop start source.now) }
 {
-    let n = source.len();
-    if n <= start {
-        return &source[n..];
-    }
-    if n - start <= len {
-        return &source[start..];
-    }
-    &source[start..start + len]
+    let rest = &source[start.min(source.len())..];
+    &rest[..len.min(rest.len())]
 }

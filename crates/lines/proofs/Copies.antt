@@ -1,28 +1,15 @@
 -- Bytes copied to a buffer, and the runs of an edited source, one behind the other.
 -- Assumes nothing.
-use mathlib.Core.Path.{◌≡◌, refl, sym, ap, ap₂, ◌∙◌}
-use mathlib.Core.List.{List, [], ◌∷◌, ◌++◌, append-nil, append_assoc}
-use Prim.Native.Nat.{ℕ, ◌+◌, ◌-◌, ◌≤◌, ◌<◌}
-use native.Mathlib.Numerals.{add-one}
+use mathlib.Core.Path.{◌≡◌, sym, ap, ap₂, ◌∙◌}
+use mathlib.Core.List.{List, [], ◌++◌, append-nil, append_assoc}
+use Prim.Native.Nat.{ℕ, ◌+◌, ◌-◌, ◌≤◌}
 use native.Mathlib.Omega.{arith}
 use native.Mathlib.Nat.{zero-add}
-use lib.ListN.{length, set, get_or, take, drop, length-append, length-drop, drop_of_length-le}
-use lib.Seq.{take-suc, take-length, length-take-le, drop-drop}
+use lib.ListN.{length, take, drop, length-append, length-drop, drop_of_length-le}
+use lib.Seq.{take-length, length-take-le, drop-drop}
 use Rattle.rules.specs.Calls.{overwrite}
 use Rattle.records.specs.Writes.{stores}
-use Rattle.records.proofs.Writes.{stores_append, stores_room, stored_before, rest_of, stored_over}
-
--- No byte of a run.
-pub stored_none : (l : List ℕ) (at : ℕ) (run : List ℕ) → l ≡ stores l at (take 0 run)
-unfolding stores
-stored_none l at run = refl
-
--- One byte more of a run.
-pub stored_more : (l run : List ℕ) (at i : ℕ) → i < length run → set (stores l at (take i run)) (at + i) (get_or run i 0) ≡ stores l at (take (i + 1) run)
-unfolding stores
-stored_more l run at i h =
-    let n : length (take i run) ≡ i = length-take-le i run (omega arith) in
-    sym (rw (add-one i, take-suc run i 0 h, stores_append l at (take i run) (get_or run i 0 ∷ []), n))
+use Rattle.records.proofs.Writes.{stores_room, stored_before, rest_of, stored_over}
 
 -- Bytes copied to the part p of a buffer from a place on.
 pub copied : (l : List ℕ) (at : ℕ) (b : List ℕ) {p : List ℕ} → at + length b ≤ length l → p ≡ take (length b) b ++ drop (length b) (take (length l - at) (drop at l))

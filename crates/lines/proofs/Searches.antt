@@ -1,14 +1,18 @@
 -- Where a search for a line feed stops, from a place on and back from one.
 -- Assumes nothing.
-use Rattle.std.proofs.Common.{Option, None, Some, Bor, reverse}
-use Rattle.std.specs.Option.{MatchOption, unwrap_or, option_eq}
+use Rattle.std.proofs.Common.{Option, None, Some, Bor, Iter, reverse}
+use Rattle.std.specs.Option.{MatchOption, IsSomeAnd, unwrap_or, option_eq}
+use Rattle.std.specs.Iterator.{FindsPosition, FindsPositionBack}
+use Rattle.std.specs.Slice.Iter.{iter_rest, iter_steps_back}
+use denote.Param.Members.{Mut}
 use Rattle.std.specs.List.{AllWithin, HoldsAt}
-use Rattle.std.proofs.lemmas.Iterator.{index_from_first}
+use Rattle.std.proofs.lemmas.Iterator.{YieldsList, index_from_first}
+use Rattle.std.proofs.lemmas.Iterator.Consumers.{YieldsList-from_shown}
 use Rattle.std.proofs.lemmas.List.{get_or-reverse, get_or-take, length-reverse}
-use Prim.Native.Nat.{ℕ, zero, suc, ◌-◌, ◌≤◌, ◌<◌}
-use mathlib.Core.Path.{◌≡◌, refl, sym, ap, ◌∙◌}
-use mathlib.Core.Bool.{true, false}
-use mathlib.Core.List.{List}
+use Prim.Native.Nat.{ℕ, zero, suc, ◌+◌, ◌-◌, ◌≤◌, ◌<◌}
+use mathlib.Core.Path.{◌≡◌, refl, sym, ap, subst, ◌∙◌}
+use mathlib.Core.Bool.{Bool, true, false, true≢false}
+use mathlib.Core.List.{List, [], ◌∷◌, reverse-append}
 use native.Mathlib.Omega.{arith}
 use native.Mathlib.Nat.{sub-zero}
 use lib.Dec.{eqb}
@@ -67,3 +71,27 @@ module _ (s : List ℕ) (e : ℕ) (h : e ≤ length s) where
   start_found (Some n) f =
       let l : n < e = omega (arith, f.0, long) in
       (omega arith, begins_fed s (e - n) (omega arith) (omega arith) (sym (back_at n l) ∙ f.1 0), none_back n (omega arith) (λ k i. f.2 k 0 (omega arith) i))
+
+  -- the same by the place of that line feed, before which q others were passed
+  pub start_behind : (r q : Option ℕ) {l : List ℕ} {x : ℕ} {P : ℕ → Type 0} → l ≡ take e s → Found back q → MatchOption r (q ≡ None) (λ i. IsSomeAnd q (λ k. i + 1 + k ≡ length l)) → MatchOption r (x ≡ 0) P → ((i : ℕ) → P i → x ≡ i + 1)
+      → (x ≤ e) × (begins_line s x ≡ true) × (among 10 (part s x e) ≡ false)
+  start_behind r q {l} {x} {P} w f m p k = subst (λ (i : ℕ). (i ≤ e) × (begins_line s i ≡ true) × (among 10 (part s i e) ≡ false)) (place r q m p) (start_found q f)
+    where
+      place : (r q : Option ℕ) → MatchOption r (q ≡ None) (λ i. IsSomeAnd q (λ k. i + 1 + k ≡ length l)) → MatchOption r (x ≡ 0) P → e - unwrap_or q e ≡ x
+      place None None m p = omega arith
+      place None (Some j) m p = absurd (true≢false cc)
+      place (Some i) None m p = absurd m
+      place (Some i) (Some j) m p = omega (arith, k i p, ap length w, length-take-le e s h)
+
+-- The items of a slice from the back.
+pub slice_back : {s : Iter ℕ} (xs : List ℕ) → iter_rest s ≡ xs → YieldsList iter_steps_back (λ y. y.now) s (reverse xs)
+slice_back {s} xs e = subst (λ (k : List ℕ). YieldsList iter_steps_back (λ y. y.now) s (reverse k)) e
+    (YieldsList-from_shown iter_steps_back (λ y. y.now) (λ u. reverse (iter_rest u)) (λ u t p. length-reverse _ ∙ p.0) (λ u x t p. ap reverse p ∙ reverse-append (iter_rest t) (x.now ∷ [])) s)
+
+-- A search from the back is one of the items in that order, and gives the place that is as far from the end.
+module _ {S A F : Type 0} (steps : S → Option A → S → Type 0) (g : Mut F (A × Unit {0}) Bool) (s u : S) (f : F) (n : ℕ) where
+  pub passed_back : (r : Option ℕ) → FindsPositionBack steps g s f n r u → (q : Option ℕ) × FindsPosition steps g s f q u × MatchOption r (q ≡ None) (λ i. IsSomeAnd q (λ k. i + 1 + k ≡ n))
+  passed_back None (xs, None, j, y, c, e) = (None, (xs, None, j, y, c, refl), refl)
+  passed_back (Some i) (xs, None, j, y, c, e) = absurd (true≢false cc)
+  passed_back None (xs, Some x, j, y, c, e) = absurd e.0
+  passed_back (Some i) (xs, Some x, j, y, c, e) = (Some (length xs), (xs, Some x, j, y, c, (refl, e.1)), e.0)

@@ -5,9 +5,10 @@ ghost use Rattle.std.specs.Prelude.{◌≡◌, true, false, ◌++◌, ◌+◌, �
 ghost use Rattle.lexer.specs.Text.{among};
 ghost use Rattle.lexer.specs.Text.{run as run_of};
 ghost use Rattle.lexer.specs.Tokens.{in_comment};
-ghost use Rattle.records.specs.Writes.{stores};
 ghost use Rattle.rules.specs.Calls.{Short, overwrite};
 ghost use Rattle.rules.specs.Patch.{begins_line};
+
+use records::copy;
 
 // Whether a line begins at a place: at 0 and after each line feed.
 pub fn begins_line(source: &[u8], place: usize) -> bool
@@ -30,21 +31,10 @@ pub fn line_start(source: &[u8], end: usize) -> usize
     requires { end ≤ length source.now }
     ensures { (result ≤ end) × (begins_line source.now result ≡ true) × (among 10 (take (end - result) (drop result source.now)) ≡ false) }
 {
-    end - source[..end]
+    source[..end]
         .iter()
-        .rev()
-        .position(|b| *b == b'\n')
-        .unwrap_or(end)
-}
-
-// Bytes copied to a place, one by one: the slice's own copy would need the C library's `memmove`.
-pub fn copy(out: &mut [u8], at: usize, run: &[u8])
-    requires { at + length run.now ≤ length out.old }
-    ensures { out.new ≡ stores out.old at run.now }
-{
-    for (i, b) in run.iter().enumerate() {
-        out[at + i] = *b;
-    }
+        .rposition(|b| *b == b'\n')
+        .map_or(0, |i| i + 1)
 }
 
 // The source with the line from `place` to `end` exchanged.

@@ -15,6 +15,7 @@ fn reason(text: &str) -> &str {
 
 // Reads the source and prints its listing; or what failed, and why.
 fn list(rt: &HostRuntime) -> Result<(), (&'static str, io::Error)> {
+    // no heap: arrays, and how many bytes of them were read or written
     let mut source = [0u8; 65537];
     let mut listing = [0u8; 65536];
     let mut text = [0u8; 393325];

@@ -2,8 +2,6 @@
 -- Assumes nothing.
 use Rattle.std.specs.Prelude.{if◌then◌else◌, Result, Ok, Err}
 use Rattle.std.specs.Prelude.{Some, None}
-use Rattle.std.specs.Result.{IsErrAnd}
-use Rattle.std.proofs.lemmas.Result.{err_from_is_err_and}
 use Prim.Native.Nat.{ℕ, zero, suc, ◌≤◌}
 use Prim.Native.Char.{Char, code}
 use Prim.Native.String.{String}
@@ -33,20 +31,15 @@ use Rattle.records.specs.declared.Writer.{Writer}
 use Rattle.refusals.specs.declared.Refusal.{Refusal}
 use Rattle.rules.specs.Lexemes.{Kind, name_in, text_of as word_of}
 use Rattle.rules.specs.Reader.{Reader, Line, ◌>>=◌, ◌>>◌, attempt, is_mark, next, ahead}
-use Rattle.rules.specs.Expressions.{expr, expression}
 use Rattle.rules.specs.Operands.{is_word, is_number, operand_sized}
 use Rattle.rules.proofs.TokenKinds.{name_inside}
 use Rattle.rules.proofs.Reencode.{same_true as same_text}
 use Rattle.state.specs.declared.Parser.{Parser}
-use Rattle.state.specs.Views.{kind_by, text_of, here_of, line_of, Plain, InLine, Level, On, line, Comes, Denies, Looks, LooksAs, Passes, Reads, ReadsWith, ReadsWithAs}
+use Rattle.state.specs.Views.{kind_by, text_of, here_of, line_of, Plain, InLine, Level, On, line, Comes, Denies, Looks, LooksAs, Passes, ReadsWith, ReadsWithAs}
 use Rattle.operands.specs.Answers.{name_at}
-use Rattle.state.proofs.Chain.{Sofar, becomes, ends, denied, comes, is_ahead, then_comes, then_denied, attempt_finds, attempt_denied, looks_denied, reads_denied}
+use Rattle.state.proofs.Chain.{Sofar, becomes, ends, denied, comes, is_ahead, then_comes, then_denied, attempt_finds, attempt_denied, first_denied, lent_sofar}
+use Rattle.records.proofs.Writers.{same_on}
 use Rattle.state.proofs.Flat.{by_kind, line_end_is, mark_ahead, other_ahead}
-
--- the rules' expression is the code's outermost
-pub outermost : {s : List ℕ} {p : Parser} {o n : Writer} {r : Result Parser Refusal} → Reads line s p (expr 32 0) o n r → Reads line s p expression o n r
-unfolding expression
-outermost h = h
 
 -- What a comparison of the token ahead's kind with another has told.
 module _ (s : List ℕ) (p : Parser) (k : TokenKind) where
@@ -215,19 +208,21 @@ module _ {L : Level} {s : List ℕ} {p : Parser} {A B : Type 0} {seen : B → A}
 
   module _ {m : Reader (On L) A} {r : Result (Parser × B) Refusal} where
     pub hands_with : {q : Parser} {m₁ : Reader (On L) A} {o n w : Writer} → Sofar L s p m o q m₁ n → ReadsWith L s q seen m₁ n w r → ReadsWith L s p seen m o w r
-    hands_with {q} {m₁} {o} {n} {w} so on = record { so = go r on.so }
+    hands_with {q} {m₁} {o} {n} {w} so on = record { so = go r on.so; lent = same_on (lent_sofar so) on.lent }
       where
         go : (r : Result (Parser × B) Refusal) → ReadsWithAs L s q seen m₁ n w r → ReadsWithAs L s p seen m o w r
         go (Ok b) h = ends so h
         go (Err e) h = denied so h
 
-    -- where `?` hands an error on
-    module _ {e : Refusal} (is : IsErrAnd r (λ x. x ≡ e)) (h : Denies L s p m e) where
-      pub looks_handed : Looks L s p seen m r
-      looks_handed = let x = err_from_is_err_and r is in rw (x.1, x.2) (looks_denied h)
+-- Refused at the token ahead, and by what reads behind it.
+module _ {s : List ℕ} {p : Parser} {A : Type 0} {x : Refusal} where
+  pub next_denied : (k : Reader Line A) → Denies line s p next x → Denies line s p (next >> k) x
+  unfolding ◌>>◌
+  next_denied k h = first_denied _ h
 
-      pub with_handed : {o n : Writer} → ReadsWith L s p seen m o n r
-      with_handed {o} {n} = let x = err_from_is_err_and r is in rw (x.1, x.2) (reads_denied {o = o} {n = n} h)
+  pub behind_denied : {B : Type 0} {q : Parser} (m : Reader Line B) (k : B → Reader Line A) → Comes line s p next q tt → Denies line s q m x → Denies line s p (next >> (m >>= k)) x
+  unfolding ◌>>◌
+  behind_denied m k h g = then_denied _ h (first_denied k g)
 
 -- A name is one token of its line.
 pub one_less : (s : List ℕ) (p q : Parser) (names : List String) {n : ℕ} → name_in names (here_of s p).kind ≡ some n → Passes line s p next (Ok q) → suc (length (line_of s q).more) ≡ length (line_of s p).more

@@ -1,18 +1,12 @@
 -- What the code's answers say of the reader that is meant: how its values are seen, and what a token names.
-use Rattle.std.specs.Prelude.{ℕ, suc, List, ◌≡◌, Bool, true, false}
-use Rattle.std.specs.Prelude.{Option as Maybe, None, Some, Result}
+use Rattle.std.specs.Prelude.{ℕ, suc, Bool, true, false}
+use Rattle.std.specs.Prelude.{Option as Maybe, None, Some}
 use Rattle.std.proofs.Math.Option.{Option, none, some}
 use Rattle.rules.specs.Lexemes.{Kind, name_in}
 use Rattle.names.specs.Names.{registers, segments, sizes, name_from}
 use Rattle.names.specs.declared.Name.{Name}
-use Rattle.rules.specs.Records.{Record, encode}
-use Rattle.rules.specs.Reader.{write, next, ◌>>◌}
 use Rattle.rules.specs.Operands.{Operands}
-use Rattle.refusals.specs.declared.Refusal.{Refusal}
-use Rattle.records.specs.declared.Writer.{Writer}
-use Rattle.state.specs.declared.Parser.{Parser}
 use Rattle.operands.specs.declared.OperandList.{OperandList}
-use Rattle.state.specs.Views.{line, Reads}
 
 abbrev pub operands_of : OperandList → Operands
 operands_of o = record { count = o.count; from = o.from; to = o.to }
@@ -39,7 +33,3 @@ coded None = 0
 abbrev pub flag : Bool → ℕ
 flag true = 1
 flag false = 0
-
--- The token ahead is passed, and a record with its bytes is written.
-pub record Names (s : List ℕ) (p : Parser) (bytes : List ℕ) (old new : Writer) (r : Result Parser Refusal) : Type 0 where
-  pub so : (o : Record) → encode o ≡ bytes → Reads line s p (next >> write o) old new r

@@ -1,19 +1,17 @@
 // Operands of an instruction.
 #![tactic(auto)]
 
-ghost use Rattle.std.specs.Prelude.{◌≡◌, [], ◌∷◌};
+ghost use Rattle.std.specs.Prelude.{◌≡◌};
 ghost use Rattle.std.proofs.Math.Option.{some};
 ghost use Rattle.rules.specs.Reader.{attempt};
 ghost use Rattle.rules.specs.Lexemes.{name_in};
-ghost use Rattle.rules.specs.Records.{plain, encode};
 ghost use Rattle.rules.specs.Operands as rules;
-ghost use Rattle.records.specs.Marks.{letters_of};
 ghost use Rattle.names.specs.Names.{registers, segments, found_of};
 ghost use Rattle.state.specs.Views.{InLine, here_of, line, Looks, Reads, ReadsWith};
-ghost use Rattle.operands.specs.Answers.{operands_of, name_at, itself, encoding_of, coded, flag, Names};
+ghost use Rattle.operands.specs.Answers.{operands_of, name_at, itself, encoding_of, coded, flag};
 ghost use Rattle.operands.specs.Parts as parts;
 
-use expressions::{DEEPEST, expression};
+use expressions::{outermost, token_record};
 use lexer::Kind;
 use names::Name;
 use records::Writer;
@@ -51,8 +49,8 @@ const SI: u8 = 14;
 const DI: u8 = 15;
 
 // What the token ahead names.
-pub fn name_ahead(source: Source<'_>, p: Parser) -> Option<Name>
-    ensures { result ≡ name_at (here_of source.entry.text.now p).kind }
+pub fn name_ahead(source: &[u8], p: Parser) -> Option<Name>
+    ensures { result ≡ name_at (here_of source.now p).kind }
 {
     if p.kind == Kind::Identifier {
         names::name_of(text(source, p))
@@ -65,17 +63,18 @@ pub fn name_ahead(source: Source<'_>, p: Parser) -> Option<Name>
 fn register_ahead(source: Source<'_>, p: Parser) -> Option<u8>
     ensures { result ≡ found_of (name_in registers (here_of source.entry.text.now p).kind) }
 {
-    match name_ahead(source, p)? {
+    match name_ahead(source.text, p)? {
         Name::Register(r) => Some(r),
         Name::Segment(_) | Name::Size(_) => None,
     }
 }
 
-// The segment that the token ahead names, if it names one.
+// The segment that the token ahead names, if it names one. The two differ in the variant, which no parameter names; a closure for it would
+// hold the same match.
 fn segment_ahead(source: Source<'_>, p: Parser) -> Option<u8>
     ensures { result ≡ found_of (name_in segments (here_of source.entry.text.now p).kind) }
 {
-    match name_ahead(source, p)? {
+    match name_ahead(source.text, p)? {
         Name::Segment(s) => Some(s),
         Name::Register(_) | Name::Size(_) => None,
     }
@@ -86,7 +85,7 @@ fn immediate_or_far(source: Source<'_>, out: &mut Writer<'_>, p: Parser) -> Resu
     ensures { Reads line source.entry.text.now p rules.immediate_or_far out.old out.new result }
 {
     let from = p.token_start;
-    let q = expression(source, out, p, 0, DEEPEST)?;
+    let q = outermost(source, out, p)?;
     if q.kind == Kind::Colon {
         return far(source, out, q, from);
     }
@@ -100,7 +99,7 @@ fn far(source: Source<'_>, out: &mut Writer<'_>, p: Parser, from: u32) -> Result
     ensures { Reads line source.entry.text.now p (parts.far from) out.old out.new result }
 {
     let q = next(source, p)?;
-    let after = expression(source, out, q, 0, DEEPEST)?;
+    let after = outermost(source, out, q)?;
     out.put_record(Mark::OF, [from, after.last_token_end]);
     Ok(after)
 }
@@ -142,56 +141,63 @@ fn paired(r: u8, q: u8) -> u8
     base + index
 }
 
-// Behind the first register `r`, which began at `from`: the plus ahead, and si or di.
-// Where no register follows the plus, back to the plus.
-fn plus_index(source: Source<'_>, p: Parser, from: u32, r: u8) -> Result<(Parser, u8), Refusal>
+// The first register in a bracket, and where it began.
+#[derive(Clone, Copy)]
+struct Leading {
+    from: u32,
+    register: u8,
+}
+
+// Behind the first register: the plus ahead, and si or di. Where no register follows the plus, back to the plus.
+fn plus_index(source: Source<'_>, p: Parser, r: Leading) -> Result<(Parser, u8), Refusal>
     requires { InLine p }
-    ensures { Looks line source.entry.text.now p itself (attempt (rules.plus_index from r) (rules.alone r)) result }
+    ensures { Looks line source.entry.text.now p itself (attempt (rules.plus_index r.from r.register) (rules.alone r.register)) result }
 {
     let q = next(source, p)?;
     let Some(s) = register_ahead(source, q) else {
-        return Ok((p, alone(r)));
+        return Ok((p, alone(r.register)));
     };
     if is_index(s) {
-        return index(source, q, from, r, s);
+        return index(source, q, r, s);
     }
     Err(Refusal {
         reason: Reason::InvalidIndirectEncoding,
-        from,
+        from: r.from,
         to: q.pos,
-        registers: Registers::Two(r, s),
+        registers: Registers::Two(r.register, s),
     })
 }
 
 // Past the second register, `s`. Two that begin with si or di are 33.
-fn index(source: Source<'_>, p: Parser, from: u32, r: u8, s: u8) -> Result<(Parser, u8), Refusal>
+fn index(source: Source<'_>, p: Parser, r: Leading, s: u8) -> Result<(Parser, u8), Refusal>
     requires { InLine p }
-    ensures { Looks line source.entry.text.now p some (parts.index from r s) result }
+    ensures { Looks line source.entry.text.now p some (parts.index r.from r.register s) result }
 {
     let q = next(source, p)?;
-    if is_index(r) {
-        return Err(refused_at(Reason::TwoIndexRegisters, from, q.last_token_end));
+    if is_index(r.register) {
+        return Err(refused_at(Reason::TwoIndexRegisters, r.from, q.last_token_end));
     }
-    Ok((q, paired(r, s)))
+    Ok((q, paired(r.register, s)))
 }
 
-// The encoding of the register `r`, which began at `from` and has been passed, with what follows it.
-fn second(source: Source<'_>, p: Parser, from: u32, r: u8) -> Result<(Parser, u8), Refusal>
-    ensures { Looks line source.entry.text.now p itself (rules.second from r) result }
+// The encoding of the first register, which has been passed, with what follows it.
+fn second(source: Source<'_>, p: Parser, r: Leading) -> Result<(Parser, u8), Refusal>
+    ensures { Looks line source.entry.text.now p itself (rules.second r.from r.register) result }
 {
     if p.kind == Kind::Plus {
-        return plus_index(source, p, from, r);
+        return plus_index(source, p, r);
     }
-    Ok((p, alone(r)))
+    Ok((p, alone(r.register)))
 }
 
-// Past the first register `r` and what follows it.
-fn first(source: Source<'_>, p: Parser, r: u8) -> Result<(Parser, Option<u8>), Refusal>
+// Past the first register and what follows it.
+fn first(source: Source<'_>, p: Parser, register: u8) -> Result<(Parser, Option<u8>), Refusal>
     requires { InLine p }
-    ensures { Looks line source.entry.text.now p encoding_of (parts.first p.token_start r) result }
+    ensures { Looks line source.entry.text.now p encoding_of (parts.first p.token_start register) result }
 {
     let q = next(source, p)?;
-    let (after, e) = second(source, q, p.token_start, r)?;
+    let from = p.token_start;
+    let (after, e) = second(source, q, Leading { from, register })?;
     Ok((after, Some(e)))
 }
 
@@ -226,18 +232,15 @@ fn displacement(
     if p.kind == Kind::CloseBracket {
         return Ok((p, false));
     }
-    let after = expression(source, out, p, 0, DEEPEST)?;
+    let after = outermost(source, out, p)?;
     Ok((after, true))
 }
 
-// A number that may be missing, as a record has it: 1 more than the number, else 0.
+// A number that may be missing, as a record has it: 1 more than the number, else 0. No `From`: both types are the language's.
 fn coded(number: Option<u8>) -> u32
     ensures { result ≡ coded number }
 {
-    match number {
-        Some(n) => n as u32 + 1,
-        None => 0,
-    }
+    number.map_or(0, |n| u32::from(n) + 1)
 }
 
 // The end of a bracket, and its record. A bracket that holds nothing is 32.
@@ -258,8 +261,8 @@ fn close(
     let segment = coded(bracket.segment);
     match bracket.registers {
         Some(e) => {
-            let has = bracket.displaced as u32;
-            out.put_record(Mark::OX, [from, to, e as u32, has, size, segment]);
+            let has = u32::from(bracket.displaced);
+            out.put_record(Mark::OX, [from, to, u32::from(e), has, size, segment]);
         }
         None => {
             if !bracket.displaced {
@@ -325,7 +328,7 @@ fn memory(
     match q.kind {
         Kind::Identifier => address(source, out, q, from, size),
         Kind::Number => {
-            let end = expression(source, out, q, 0, DEEPEST)?;
+            let end = outermost(source, out, q)?;
             close(
                 source,
                 out,
@@ -343,22 +346,6 @@ fn memory(
     }
 }
 
-// An operand that is one name: its record.
-fn named(
-    source: Source<'_>,
-    out: &mut Writer<'_>,
-    p: Parser,
-    mark: Mark,
-    number: u8,
-) -> Result<Parser, Refusal>
-    requires { InLine p }
-    ensures { Names source.entry.text.now p (encode (plain (letters_of mark) (p.token_start ∷ p.pos ∷ number ∷ []))) out.old out.new result }
-{
-    let q = next(source, p)?;
-    out.put_record(mark, [p.token_start, p.pos, number as u32]);
-    Ok(q)
-}
-
 // An operand, perhaps behind size words, of which the last counts.
 fn operand(source: Source<'_>, out: &mut Writer<'_>, p: Parser) -> Result<Parser, Refusal>
     ensures { Reads line source.entry.text.now p rules.operand out.old out.new result }
@@ -369,9 +356,25 @@ fn operand(source: Source<'_>, out: &mut Writer<'_>, p: Parser) -> Result<Parser
         if q.kind == Kind::OpenBracket {
             return memory(source, out, q, size);
         }
-        match name_ahead(source, q) {
-            Some(Name::Register(r)) => return named(source, out, q, Mark::OR, r),
-            Some(Name::Segment(s)) => return named(source, out, q, Mark::OS, s),
+        match name_ahead(source.text, q) {
+            Some(Name::Register(r)) => {
+                return token_record(
+                    source,
+                    out,
+                    q,
+                    Mark::OR,
+                    [q.token_start, q.pos, u32::from(r)],
+                );
+            }
+            Some(Name::Segment(s)) => {
+                return token_record(
+                    source,
+                    out,
+                    q,
+                    Mark::OS,
+                    [q.token_start, q.pos, u32::from(s)],
+                );
+            }
             None => return immediate_or_far(source, out, q),
             Some(Name::Size(z)) => {
                 q = next(source, q)?;

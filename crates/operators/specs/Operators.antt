@@ -29,7 +29,10 @@ abbrev pub prefix_level_of : Operator → Option ℕ
 prefix_level_of op = if ltb (operator_number op) 2 then (Some prefix_level) else None
 
 -- 50: beyond 32 signed bits; 51: zero divisor.
+abbrev pub error_number : EvaluateError → ℕ
+error_number Beyond32Bits = 50
+error_number ZeroDivisor = 51
+
 abbrev pub result_of : Answer ℤ EvaluateError → Result ℤ
 result_of (Ok z) = gives z
-result_of (Err Beyond32Bits) = refuses (nowhere 50)
-result_of (Err ZeroDivisor) = refuses (nowhere 51)
+result_of (Err e) = refuses (nowhere (error_number e))

@@ -4,7 +4,10 @@
 ghost use Rattle.std.specs.Prelude.{◌≡◌};
 ghost use Rattle.rules.specs.Expressions as rules;
 ghost use Rattle.rules.specs.Evaluate.{evaluate as exactly};
-ghost use Rattle.operators.specs.Operators.{operator_number, prefix_level_of, result_of, Numbers};
+ghost use Rattle.refusals.specs.Refusals.{number_of};
+ghost use Rattle.operators.specs.Operators.{operator_number, prefix_level_of, error_number, result_of, Numbers};
+
+use refusals::Reason;
 
 // The numbers are those that PF and IN have.
 #[derive(Clone, Copy, PartialEq, Eq)]
@@ -24,6 +27,17 @@ pub struct UnknownOperator;
 pub enum EvaluateError {
     Beyond32Bits,
     ZeroDivisor,
+}
+
+impl From<EvaluateError> for Reason {
+    ghost from_gives = { λ e r. number_of r ≡ error_number e };
+
+    fn from(e: EvaluateError) -> Reason {
+        match e {
+            EvaluateError::Beyond32Bits => Reason::Beyond32Bits,
+            EvaluateError::ZeroDivisor => Reason::ZeroDivisor,
+        }
+    }
 }
 
 impl TryFrom<u8> for Operator {
@@ -71,7 +85,7 @@ impl Operator {
         }
     }
 
-    // As PF and IN have it.
+    // As PF and IN have it. A method and no `From`, so that a caller's line says what the u32 is.
     pub fn number(self) -> u32
         ensures { result ≡ operator_number self }
     {

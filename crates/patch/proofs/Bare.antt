@@ -1,5 +1,6 @@
 -- Whether a line read alone is bare says its first token.
 -- Assumes nothing.
+use Rattle.std.specs.Prelude.{Result, Ok, Err, MatchResult}
 use Prim.Native.Nat.{ℕ}
 use mathlib.Core.Path.{◌≡◌, refl, sym, ap, ◌∙◌}
 use mathlib.Core.Bool.{Bool, true, false, and-true, true≢false}
@@ -15,8 +16,9 @@ use Rattle.rules.proofs.Exchange.{ends_rows}
 use Rattle.rules.proofs.OneRow.{Single, one_row as single_row}
 use Rattle.state.specs.declared.Parser.{Parser}
 use Rattle.refusals.specs.declared.Refusal.{Refusal}
-use Rattle.state.specs.Views.{here_of, state_of}
-use Rattle.statements.specs.Statements.{begin, Started, NotStarted}
+use Rattle.state.specs.Views.{ends_line, here_of, state_of}
+use Rattle.state.proofs.Flat.{end_ahead}
+use Rattle.statements.specs.Statements.{begin, Started, NotStarted, Starts}
 
 -- A text without a line feed is one row.
 abbrev One : List Row → Type 0
@@ -36,7 +38,7 @@ module _ (s : List ℕ) (plain : among 10 s ≡ false) where
   unfolding bare_line blank_rows
   bare_by r e = sym (sym (ends_rows (tokens_from 0 0 s)) ∙ ap blank_rows e ∙ and-true (is_line_end r.first.kind))
 
-  pub bare_begun : (p : Parser) → Started s 0 p → is_line_end (here_of s p).kind ≡ bare_line s
+  bare_begun : (p : Parser) → Started s 0 p → is_line_end (here_of s p).kind ≡ bare_line s
   unfolding begin enter first_of
   bare_begun p b =
       let (r, e) = one_row 0 0 s plain in
@@ -44,7 +46,7 @@ module _ (s : List ℕ) (plain : among 10 s ≡ false) where
       let j : enter r [] ≡ state_of s p = cc (arrive_done r.first (done [] tt (enter r [])) i) in
       sym (ap (λ (u : State). is_line_end u.line.here.kind) j) ∙ bare_by r e
 
-  pub bare_not_begun : {q : Refusal} → NotStarted s 0 q → false ≡ bare_line s
+  bare_not_begun : {q : Refusal} → NotStarted s 0 q → false ≡ bare_line s
   unfolding begin
   bare_not_begun b =
       let (r, e) = one_row 0 0 s plain in
@@ -56,3 +58,8 @@ module _ (s : List ℕ) (plain : among 10 s ≡ false) where
       go r true h k i =
           let j : ◌≡◌ {A = Answer State (Unit {0})} (done [] tt (enter r [])) (refused k) = sym (arrive_fine r.first (done [] tt (enter r [])) (end_fine r.first.kind h)) ∙ i in
           absurd (true≢false cc)
+
+  -- of what `start` answers
+  pub bare_tells : (r : Result Parser Refusal) → Starts s 0 r → {b : Bool} → MatchResult r (λ p. b ≡ ends_line p.kind) (λ _. b ≡ false) → b ≡ bare_line s
+  bare_tells (Ok p) h k = sym (end_ahead s p k refl) ∙ bare_begun p h.so
+  bare_tells (Err r) h k = k ∙ bare_not_begun h.so

@@ -11,7 +11,7 @@ use Rattle.rules.specs.Calls.{Result, gives, refuses, full_read}
 use Rattle.rules.specs.Patch.{is_open, leaves_open}
 use Rattle.rules.proofs.Alone.{open_any_room}
 use Rattle.refusals.specs.declared.Refusal.{Refusal}
-use Rattle.std.specs.Prelude.{Result as Answer, Ok, Err}
+use Rattle.std.specs.Prelude.{Result as Answer, Ok, Err, MatchResult}
 use Rattle.refusals.specs.Refusals.{Numbers, number_of, by_numbers}
 use Rattle.reader.specs.Calls.{full_answer}
 
@@ -28,8 +28,7 @@ module _ (l : List ℕ) (room : ℕ) where
   open_by : (r : Answer ℕ Refusal) → by_numbers r ≡ full_answer (full_read present l room) → answers_open (by_numbers r) ≡ leaves_open present l
   open_by r e = (λ i. answers_open (e i)) ∙ answer_tells (full_read present l room) ∙ open_any_room present l room
 
-  pub open_denied : (r : Refusal) → by_numbers {A = ℕ} (Err r) ≡ full_answer (full_read present l room) → {b : Bool} → b ≡ eqb (number_of r.reason) 34 → b ≡ leaves_open present l
-  open_denied r e k = k ∙ open_by (Err r) e
-
-  pub open_accepted : {n : ℕ} → by_numbers (Ok n) ≡ full_answer (full_read present l room) → false ≡ leaves_open present l
-  open_accepted {n} e = open_by (Ok n) e
+  pub open_tells : (r : Answer ℕ Refusal) → by_numbers r ≡ full_answer (full_read present l room) → {b : Bool}
+      → MatchResult r (λ _. b ≡ false) (λ e. b ≡ eqb (number_of e.reason) 34) → b ≡ leaves_open present l
+  open_tells (Ok n) e k = k ∙ open_by (Ok n) e
+  open_tells (Err r) e k = k ∙ open_by (Err r) e

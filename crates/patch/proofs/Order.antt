@@ -127,15 +127,15 @@ module _ (ed : List ℕ) (short : length ed ≤ 65536) (x : Result Edit) where
   lent_ascii = rw (le-ltb 65536 (length ed) short)
 
 -- the edited source at the head of a room that is large enough
-module _ (x : Exchange) (room : List ℕ) {n : ℕ} {room' : List ℕ} (k : n ≡ length (edited x.old.now x.place x.text.now)) (short : n ≤ 65536)
-    (f : room' ≡ overwrite (take x.place x.old.now ++ (x.text.now ++ drop x.end x.old.now)) room) where
+module _ (x : Exchange) (room : List ℕ) {n : ℕ} {room' : List ℕ} (k : n ≡ length (edited x.old.text.now x.place x.text.now)) (short : n ≤ 65536)
+    (f : room' ≡ overwrite (take x.place x.old.text.now ++ (x.text.now ++ drop x.end x.old.text.now)) room) where
   abbrev ed : List ℕ
-  ed = edited x.old.now x.place x.text.now
+  ed = edited x.old.text.now x.place x.text.now
 
   edit_taken : take n room' ≡ ed
   unfolding overwrite
   edit_taken =
-      ap (take n) (f ∙ ap (λ (b : List ℕ). overwrite b room) (edited_is x.old.now x.place (begins_within x.old.now x.place x.begins) x.ends x.text.now))
+      ap (take n) (f ∙ ap (λ (b : List ℕ). overwrite b room) (edited_is x.old.text.now x.place (begins_within x.old.text.now x.place x.begins) x.ends x.text.now))
       ∙ take_at ed (drop (length ed) room) n (sym k)
 
   ascii_so : {c : Result Edit} (y : Result Edit) → lent (take n room') y ≡ c → ascii ed y ≡ c
@@ -188,20 +188,20 @@ module _ (old bytes : List ℕ) (a : ℕ) (new : List ℕ) (room_s room_l : ℕ)
     is_closed k = formed.1 ∙ rw k
 
 -- 40 by its three lines.
-module _ (x : Exchange) {b : Bool} (i : b ≡ leaves_open present (take (x.end - x.place) (drop x.place x.old.now))) where
-  old_is : leaves_open present (line_at x.old.now x.place) ≡ b
-  old_is = ap (leaves_open present) (sym (line_slice x.old.now x.place (begins_within x.old.now x.place x.begins) x.ends)) ∙ sym i
+module _ (x : Exchange) {b : Bool} (i : b ≡ leaves_open present (take (x.end - x.place) (drop x.place x.old.text.now))) where
+  old_is : leaves_open present (line_at x.old.text.now x.place) ≡ b
+  old_is = ap (leaves_open present) (sym (line_slice x.old.text.now x.place (begins_within x.old.text.now x.place x.begins) x.ends)) ∙ sym i
 
-  pub old_open : b ≡ true → true ≡ open_line present x.old.now x.place x.text.now
+  pub old_open : b ≡ true → true ≡ open_line present x.old.text.now x.place x.text.now
   unfolding open_line
   old_open k = rw (old_is ∙ k)
 
   module _ (k : b ≡ false) {c : Bool} (m : c ≡ leaves_open present x.text.now) where
-    pub new_open : c ≡ true → true ≡ open_line present x.old.now x.place x.text.now
+    pub new_open : c ≡ true → true ≡ open_line present x.old.text.now x.place x.text.now
     unfolding open_line
     new_open n = rw (old_is ∙ k, sym m ∙ n)
 
-    pub near_open : c ≡ false → {d : Bool} → d ≡ maybe (nearest (lines_from [] (above x.old.now x.place))) false (leaves_open present)
-        → d ≡ open_line present x.old.now x.place x.text.now
+    pub near_open : c ≡ false → {d : Bool} → d ≡ maybe (nearest (lines_from [] (above x.old.text.now x.place))) false (leaves_open present)
+        → d ≡ open_line present x.old.text.now x.place x.text.now
     unfolding open_line
     near_open n d = rw (old_is ∙ k, sym m ∙ n) d

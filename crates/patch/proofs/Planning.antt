@@ -37,9 +37,9 @@ same_plan h p = rw h p
 
 -- 6 and 4 by the numbers of a plan.
 module _ (e : Result Edit) (ed old : List ℕ) (x : Plan) (cut : x.cut ≤ length ed) (f : Surveyed (take x.cut ed) old x)
-    (P : Parts old x.place x.old x.below x.on) (rooms : Rooms) (h : e ≡ placed_in rooms.source rooms.listing ed (new_records (take x.cut ed) old x)) where
+    (P : Parts old x.place x.shift.old x.below x.on) (rooms : Rooms) (h : e ≡ placed_in rooms.source rooms.listing ed (new_records (take x.cut ed) old x)) where
   size : new_length x (length old) ≡ length (listing (new_records (take x.cut ed) old x))
-  size = size_is P x.new (accepted_of (read_from present x.place (drop x.place (take x.cut ed)))) f.measured.size
+  size = size_is P x.shift.new (accepted_of (read_from present x.place (drop x.place (take x.cut ed)))) f.measured.size
 
   pub plans_fitted : (r : Answer Plan Refusal) → by_numbers r ≡ fitted_of x (length ed) (length old) rooms → Plans e ed old rooms r
   plans_fitted r k = record { so = go r (ltb rooms.source (length ed)) refl (ltb rooms.listing (new_length x (length old))) refl k }
@@ -60,21 +60,25 @@ module _ (e : Result Edit) (ed old : List ℕ) (x : Plan) (cut : x.cut ≤ lengt
         listing_room = ltb-false rooms.listing (new_length x (length old)) j;
       })
 
+-- the new text is no longer than the edited source
+pub new_short : (x : Exchange) (v : Ascii) → v.source.text.now ≡ edited x.old.text.now x.place x.text.now → length x.text.now ≤ 65536
+new_short x v is = omega (arith, new_within x.old.text.now x.place x.text.now (begins_within x.old.text.now x.place x.begins) is, v.source.short)
+
 -- What is found where the line was read to its end.
-module _ (x : Exchange) (v : Ascii) (is : v.source.text.now ≡ edited x.old.now x.place x.text.now) {bytes : List ℕ} (octets : Octets bytes) {cut : ℕ} (k : cut ≡ min (x.place + length x.text.now + 1) (length v.source.text.now))
+module _ (x : Exchange) (v : Ascii) (is : v.source.text.now ≡ edited x.old.text.now x.place x.text.now) {bytes : List ℕ} (octets : Octets bytes) {cut : ℕ} (k : cut ≡ min (x.place + length x.text.now + 1) (length v.source.text.now))
     {p q : Parser} {o w : Writer} (begins : o.at ≡ 0) (started : Started (take cut v.source.text.now) x.place p) (reads : ReadsStatements operations (take cut v.source.text.now) p o w (Ok q))
     (d : Decodes bytes 0) {below on : ℕ} (f : First bytes 0 x.place below) (g : First bytes below x.end on) where
   abbrev ed : List ℕ
   ed = v.source.text.now
 
-  within : x.place ≤ length x.old.now
-  within = begins_within x.old.now x.place x.begins
+  within : x.place ≤ length x.old.text.now
+  within = begins_within x.old.text.now x.place x.begins
 
-  abbrev plan : Plan
-  plan = record { place = x.place; old = x.end - x.place; new = length x.text.now; cut = cut; below = below; on = on; size = w.at; start = p }
+  abbrev plan : length x.text.now ≤ 65536 → Plan
+  plan low = record { place = x.place; shift = record { new = length x.text.now; old = x.end - x.place; low = low }; cut = cut; below = below; on = on; size = w.at; start = p }
 
-  cut_so : Cut x.old.now x.place x.text.now within is cut
-  cut_so = cut_is x.old.now x.place x.text.now within is k
+  cut_so : Cut x.old.text.now x.place x.text.now within is cut
+  cut_so = cut_is x.old.text.now x.place x.text.now within is k
 
   rest : First bytes below (x.place + (x.end - x.place)) on
   rest = let e : x.end ≡ x.place + (x.end - x.place) = omega (arith, x.ends) in first_as e g
@@ -82,12 +86,11 @@ module _ (x : Exchange) (v : Ascii) (is : v.source.text.now ≡ edited x.old.now
   old_parts : Parts bytes x.place (x.end - x.place) below on
   old_parts = parts octets d f rest
 
-  line_found : Surveyed (take cut ed) bytes plan
-  line_found = record {
+  line_found : (low : length x.text.now ≤ 65536) → Surveyed (take cut ed) bytes (plan low)
+  line_found low = record {
     short = short_take cut ed v.source.short;
     plain = plain_take cut ed v.ascii;
     place = cut_so.place;
-    new = omega (arith, new_within x.old.now x.place x.text.now within is, v.source.short);
     measured = measured (take cut ed) x.place (short_take cut ed v.source.short) (plain_take cut ed v.ascii) cut_so.place begins started reads;
     decodes = d;
     below = f;
@@ -95,15 +98,16 @@ module _ (x : Exchange) (v : Ascii) (is : v.source.text.now ≡ edited x.old.now
   }
 
   -- its numbers are small
-  pub plan_small : length bytes ≤ 9223372036854775807 → (on ≤ length bytes) × (new_length plan (length bytes) < 18446744073709551616)
+  pub plan_small : length bytes ≤ 9223372036854775807 → (on ≤ length bytes) × (new_length (plan (new_short x v is)) (length bytes) < 18446744073709551616)
   plan_small l =
-      let m = measure_small (take cut ed) x.place line_found.short line_found.plain line_found.place line_found.measured in
+      let y = line_found (new_short x v is) in
+      let m = measure_small (take cut ed) x.place y.short y.plain y.place y.measured in
       (omega (arith, old_parts.all), omega (arith, old_parts.all, old_parts.order, m))
 
-  pub line_planned : (rooms : Rooms) (r : Answer Plan Refusal) → by_numbers r ≡ fitted_of plan (length ed) (length bytes) rooms
-      → Plans (reread x.old.now (records_at bytes 0) x.place x.text.now rooms.source rooms.listing (read_from present x.place (x.text.now ++ take 1 (behind x.old.now x.place)))) ed bytes rooms r
-  line_planned rooms = plans_fitted _ ed bytes plan cut_so.within line_found old_parts rooms
-      (line_accepted x.old.now (records_at bytes 0) x.place x.text.now rooms (take cut ed) cut_so.line {end = x.end} {ed = ed} line_found.measured x.ends is)
+  pub line_planned : (low : length x.text.now ≤ 65536) (rooms : Rooms) (r : Answer Plan Refusal) → by_numbers r ≡ fitted_of (plan low) (length ed) (length bytes) rooms
+      → Plans (reread x.old.text.now (records_at bytes 0) x.place x.text.now rooms.source rooms.listing (read_from present x.place (x.text.now ++ take 1 (behind x.old.text.now x.place)))) ed bytes rooms r
+  line_planned low rooms = plans_fitted _ ed bytes (plan low) cut_so.within (line_found low) old_parts rooms
+      (line_accepted x.old.text.now (records_at bytes 0) x.place x.text.now rooms (take cut ed) cut_so.line {end = x.end} {ed = ed} (line_found low).measured x.ends is)
 
 -- An applied plan is the patch.
 pub applied : {e : Result Edit} {ed : List ℕ} {w : List Record} {s s' l l' : List ℕ} {m n : ℕ} → e ≡ gives (record { source = ed; records = w }) → m ≡ length ed → Applied ed w s s' l l' n

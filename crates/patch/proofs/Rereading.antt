@@ -170,17 +170,18 @@ module _ (s : List ℕ) (place : ℕ) where
           }
 
 -- What was measured, read again by a writer that begins at 0, is written to its buffer, so to what its owner lent it.
-pub read_again : (line : Ascii) {place : ℕ} → place ≤ length line.source.text.now → {p : Parser} {o w : Writer} → o.at ≡ 0 → {m : ℕ} → Measured line.source.text.now place p m → m ≤ length o.out.now
+pub read_again : (line : Ascii) {place : ℕ} → place ≤ length line.source.text.now → {p : Parser} {o w : Writer} → o.at ≡ 0 → {room : List ℕ} → o.out.now ≡ room
+    → {m : ℕ} → Measured line.source.text.now place p m → m ≤ length room
     → (r : Answer Parser Refusal) → ReadsStatements operations line.source.text.now p o w r → {l : List ℕ} → (o.out.ghost_name ≡ w.out.ghost_name → l ≡ w.out.now)
-    → l ≡ stores o.out.now 0 (listing (accepted_of (read_from present place (drop place line.source.text.now))))
-read_again line within begins b i (Err r) h j = absurd (never_denied _ _ b h)
-read_again line {place} within {o = o} begins b i (Ok q) h j =
+    → l ≡ stores room 0 (listing (accepted_of (read_from present place (drop place line.source.text.now))))
+read_again line within begins e b i (Err r) h j = absurd (never_denied _ _ b h)
+read_again line {place} within {o = o} begins e b i (Ok q) h j =
     let s : List ℕ = line.source.text.now in
     let f = all_read operations s place b.started h in
     let k : accepted_of (reading s place) ≡ f.v = ap accepted_of f.reads in
     let c : length (listing (accepted_of (reading s place))) ≡ length (listing f.v) = ap (λ (v : List Record). length (listing v)) k in
-    j (sym f.puts.buffer) ∙ f.puts.wrote.wrote (omega (arith, begins, little s place line.source.short line.ascii within f.v f.reads)) (omega (arith, begins, b.size))
-    ∙ (λ n. stores o.out.now (begins n) (listing (sym k n)))
+    j (sym f.puts.buffer) ∙ f.puts.wrote.wrote (omega (arith, begins, little s place line.source.short line.ascii within f.v f.reads)) (omega (arith, begins, b.size, ap length e))
+    ∙ (λ n. stores (e n) (begins n) (listing (sym k n)))
 
 -- What the reading makes of the patch.
 module _ (old : List ℕ) (rs : List Record) (a : ℕ) (new : List ℕ) (rooms : Rooms) where

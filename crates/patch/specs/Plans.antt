@@ -29,11 +29,10 @@ pub record Surveyed (line bytes : List ℕ) (x : Plan) : Type 0 where
   pub short : Short line
   pub plain : foreign_place line ≡ length line
   pub place : x.place ≤ length line
-  pub new : x.new ≤ 65536
   pub measured : Measured line x.place x.start x.size
   pub decodes : Decodes bytes 0
   pub below : First bytes 0 x.place x.below
-  pub on : First bytes x.below (x.place + x.old) x.on
+  pub on : First bytes x.below (x.place + x.shift.old) x.on
 
 -- The new line's records, and their bytes.
 abbrev pub line_records : List ℕ → Plan → List Record
@@ -45,7 +44,7 @@ line_bytes line x = listing (line_records line x)
 -- The records of the new listing.
 abbrev pub new_records : (line bytes : List ℕ) → Plan → List Record
 new_records line bytes x =
-    exchanged x.place x.old x.new (records_at bytes 0) (line_records line x)
+    exchanged x.place x.shift.old x.shift.new (records_at bytes 0) (line_records line x)
 
 -- All refusals of the patch e are past: both buffers have room.
 pub record Ready (e : Result Edit) (edited bytes : List ℕ) (x : Plan) (rooms : Rooms) : Type 0 where

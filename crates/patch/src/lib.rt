@@ -3,7 +3,7 @@
 
 ghost use Rattle.std.specs.Prelude.{◌≡◌, true, ◌++◌, ◌+◌, ◌-◌, ◌≤◌, ◌<◌, length, take};
 ghost use Rattle.refusals.specs.Refusals.{by_numbers};
-ghost use Rattle.rules.specs.Calls.{Short, ascii};
+ghost use Rattle.rules.specs.Calls.{ascii};
 ghost use Rattle.rules.specs.Decode.{decode};
 ghost use Rattle.rules.specs.Statements.{present, read_from};
 ghost use Rattle.rules.specs.Patch as rules;
@@ -12,14 +12,15 @@ ghost use Rattle.records.specs.Writes.{stores};
 ghost use Rattle.patch.specs.Patched.{patch_answer, Patches, Measured, AsFullRead};
 ghost use Rattle.patch.specs.Plans.{new_length, fitted_of, Surveyed, line_bytes, new_records, Plans, Applied};
 
-use lines::{begins_line, copy, edit, line_end};
+use lines::{begins_line, edit, line_end};
 use moves::move_rest;
 use open::{leaves_open, nearest_open};
 use reader::ascii::Ascii;
 use reader::{SOURCE_MAX, readable};
-use records::Writer;
 use records::moves::first_from;
-use refusals::{Reason, Refusal, refused_at};
+use records::shift::Shift;
+use records::{Writer, copy};
+use refusals::{Reason, Refusal, refused_nowhere};
 use state::Parser;
 use state::source::Source;
 use statements::{start, statements};
@@ -34,32 +35,31 @@ pub struct Patched {
     pub listing: usize,
 }
 
-// The exchange that is asked for: the line of `old` from `place` to before `end` gives way to `text`.
+// The exchange that is asked for: the line of `old` from `place` to before `end` gives way to `text`, lent apart.
 #[derive(Clone, Copy)]
-struct Exchange<'a> {
-    old: &'a [u8],
+struct Exchange<'a, 'b> {
+    old: Source<'a>,
     place: usize,
     end: usize,
-    text: &'a [u8],
-    ghost short: { Short old.now },
-    ghost begins: { rules.begins_line old.now place ≡ true },
-    ghost ends: { end ≡ place + length (rules.line_at old.now place) },
+    text: &'b [u8],
+    ghost begins: { rules.begins_line old.text.now place ≡ true },
+    ghost ends: { end ≡ place + length (rules.line_at old.text.now place) },
 }
 
-// How many bytes are lent for the edited source and for its listing.
+// How many bytes are lent for the edited source and for its listing, without the buffers: nothing is written before the plan is made.
+// They are two, since the C interface lends two buffers apart.
 #[derive(Clone, Copy)]
 struct Rooms {
     source: usize,
     listing: usize,
 }
 
-// How it is done: the line begins at `place`, and `old` bytes give way to `new`; the edited source is read up to `cut`, behind the new line,
+// How it is done: the line begins at `place`, and `shift.old` bytes give way to `shift.new`; the edited source is read up to `cut`, behind the new line,
 // whose records have `size` bytes, from the state `start` on; the old listing's bytes up to `below` are kept, those from `on` on moved.
 #[derive(Drop)]
 struct Plan {
     place: usize,
-    old: usize,
-    new: usize,
+    shift: Shift,
     cut: usize,
     below: usize,
     on: usize,
@@ -74,24 +74,24 @@ fn fitted(x: Plan, m: usize, n: usize, rooms: Rooms) -> Result<Plan, Refusal>
 {
     let all = x.below + x.size + (n - x.on);
     if rooms.source < m {
-        return Err(refused_at(Reason::SourceNoRoom, 0, 0));
+        return Err(refused_nowhere(Reason::SourceNoRoom));
     }
     if rooms.listing < all {
-        return Err(refused_at(Reason::ListingNoRoom, 0, 0));
+        return Err(refused_nowhere(Reason::ListingNoRoom));
     }
     Ok(x)
 }
 
 // Only the new line, with its line feed, is read, in its place, and measured.
 fn plan_line(
-    x: Exchange<'_>,
+    x: Exchange<'_, '_>,
     listing: &[u8],
     edited: Ascii<'_>,
     rooms: Rooms,
 ) -> Result<Plan, Refusal>
-    requires { (edited.source.text.now ≡ rules.edited x.old.now x.place x.text.now) × Decodes listing.now 0 }
-    ensures { Plans (rules.reread x.entry.old.now (records_at listing.now 0) x.entry.place x.entry.text.now rooms.source rooms.listing
-        (read_from present x.entry.place (x.entry.text.now ++ take 1 (rules.behind x.entry.old.now x.entry.place))))
+    requires { (edited.source.text.now ≡ rules.edited x.old.text.now x.place x.text.now) × Decodes listing.now 0 }
+    ensures { Plans (rules.reread x.entry.old.text.now (records_at listing.now 0) x.entry.place x.entry.text.now rooms.source rooms.listing
+        (read_from present x.entry.place (x.entry.text.now ++ take 1 (rules.behind x.entry.old.text.now x.entry.place))))
         edited.entry.source.text.now listing.now rooms result }
 {
     let bytes = edited.source.text;
@@ -101,16 +101,15 @@ fn plan_line(
     };
     let start = start(line, x.place as u32)?;
     let mut nothing = [0u8; 0];
-    let mut measured = Writer {
-        out: &mut nothing,
-        at: 0,
-    };
+    let mut measured = Writer::new(&mut nothing);
     let _ = statements(line, names::operations(), &mut measured, start)?;
     let below = first_from(listing, 0, x.place);
     let plan = Plan {
         place: x.place,
-        old: x.end - x.place,
-        new: x.text.len(),
+        shift: Shift {
+            new: x.text.len(),
+            old: x.end - x.place,
+        },
         cut,
         below,
         on: first_from(listing, below, x.end),
@@ -121,28 +120,28 @@ fn plan_line(
 }
 
 // 40: whether the replaced line, the new one, or the nearest above that has more leaves a `times` open.
-fn open_line(x: Exchange<'_>) -> bool
-    ensures { result ≡ rules.open_line present x.entry.old.now x.entry.place x.entry.text.now }
+fn open_line(x: Exchange<'_, '_>) -> bool
+    ensures { result ≡ rules.open_line present x.entry.old.text.now x.entry.place x.entry.text.now }
 {
-    leaves_open(&x.old[x.place..x.end]) || leaves_open(x.text) || nearest_open(x.old, x.place)
+    leaves_open(&x.old.text[x.place..x.end]) || leaves_open(x.text) || nearest_open(x.old, x.place)
 }
 
 // 41, then 40, then the reading, 6 and 4: every refusal behind 2. Nothing is lent for writing.
 fn plan_patch(
-    x: Exchange<'_>,
+    x: Exchange<'_, '_>,
     listing: &[u8],
     edited: Ascii<'_>,
     rooms: Rooms,
 ) -> Result<Plan, Refusal>
-    requires { edited.source.text.now ≡ rules.edited x.old.now x.place x.text.now }
-    ensures { Plans (rules.patched present x.entry.old.now (decode listing.now) x.entry.place x.entry.text.now rooms.source rooms.listing)
+    requires { edited.source.text.now ≡ rules.edited x.old.text.now x.place x.text.now }
+    ensures { Plans (rules.patched present x.entry.old.text.now (decode listing.now) x.entry.place x.entry.text.now rooms.source rooms.listing)
         edited.entry.source.text.now listing.now rooms result }
 {
-    if !checker::well_formed(listing, x.old.len()) {
-        return Err(refused_at(Reason::ListingNotWellFormed, 0, 0));
+    if !checker::well_formed(listing, x.old.text.len()) {
+        return Err(refused_nowhere(Reason::ListingNotWellFormed));
     }
     if open_line(x) {
-        return Err(refused_at(Reason::TimesLeftOpen, 0, 0));
+        return Err(refused_nowhere(Reason::TimesLeftOpen));
     }
     plan_line(x, listing, edited, rooms)
 }
@@ -153,7 +152,7 @@ fn write_line(x: &Plan, line: Ascii<'_>, out: &mut [u8])
         × (x.now.size ≤ length out.old) }
     ensures { out.new ≡ stores out.old 0 (line_bytes line.entry.source.text.now x.now) }
 {
-    let mut new = Writer { out, at: 0 };
+    let mut new = Writer::new(out);
     // Never refused: what was measured is read again.
     let _ = statements(line.source, names::operations(), &mut new, x.start);
 }
@@ -174,26 +173,27 @@ fn apply(x: Plan, edited: &[u8], listing: &[u8], source: &mut [u8], out: &mut [u
     write_line(&x, line, &mut out[x.below..]);
     copy(source, 0, edited);
     copy(out, 0, &listing[..x.below]);
-    move_rest(listing, x.on, out, behind, x.new, x.old);
+    move_rest(listing, x.on, out, behind, x.shift);
     behind + (listing.len() - x.on)
 }
 
 // 2, then the rest, with the edited source in a local buffer of n bytes' use.
 fn exchange_line(
-    x: Exchange<'_>,
+    x: Exchange<'_, '_>,
     listing: &[u8],
     n: usize,
     source: &mut [u8],
     out: &mut [u8],
 ) -> Result<Patched, Refusal>
-    requires { (n ≡ length (rules.edited x.old.now x.place x.text.now)) × (n ≤ 65536) }
-    ensures { Patches (ascii (rules.edited x.entry.old.now x.entry.place x.entry.text.now)
-        (rules.patched present x.entry.old.now (decode listing.now) x.entry.place x.entry.text.now (length source.old)
+    requires { (n ≡ length (rules.edited x.old.text.now x.place x.text.now)) × (n ≤ 65536) }
+    ensures { Patches (ascii (rules.edited x.entry.old.text.now x.entry.place x.entry.text.now)
+        (rules.patched present x.entry.old.text.now (decode listing.now) x.entry.place x.entry.text.now (length source.old)
         (length out.old)))
         source.old source.new out.old out.new result }
 {
-    let mut room = [0u8; 65536];
-    edit(x.old, x.place, x.end, x.text, &mut room);
+    // No heap: an array, cut to the edited source's n bytes once.
+    let mut room = [0u8; SOURCE_MAX];
+    edit(x.old.text, x.place, x.end, x.text, &mut room);
     let edited = readable(&room[..n])?;
     let rooms = Rooms {
         source: source.len(),
@@ -223,21 +223,21 @@ pub fn patch(
         source.old source.new out.old out.new (by_numbers result) }
 {
     if !begins_line(old, place) {
-        return Err(refused_at(Reason::NoSuchPlace, 0, 0));
+        return Err(refused_nowhere(Reason::NoSuchPlace));
     }
     if line_end(text, 0) < text.len() {
-        return Err(refused_at(Reason::LineFeedInText, 0, 0));
+        return Err(refused_nowhere(Reason::LineFeedInText));
     }
     if (SOURCE_MAX < old.len()) | (SOURCE_MAX < text.len()) {
-        return Err(refused_at(Reason::SourceTooLong, 0, 0));
+        return Err(refused_nowhere(Reason::SourceTooLong));
     }
     let end = line_end(old, place);
     let n = old.len() - (end - place) + text.len();
     if SOURCE_MAX < n {
-        return Err(refused_at(Reason::SourceTooLong, 0, 0));
+        return Err(refused_nowhere(Reason::SourceTooLong));
     }
     let x = Exchange {
-        old,
+        old: Source { text: old },
         place,
         end,
         text,

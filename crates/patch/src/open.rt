@@ -2,7 +2,6 @@
 ghost use Rattle.std.specs.Prelude.{◌≡◌, true, false, [], ◌-◌, eqb};
 ghost use Rattle.lexer.specs.Text.{maybe, among};
 ghost use Rattle.refusals.specs.Refusals.{number_of};
-ghost use Rattle.rules.specs.Calls.{Short};
 ghost use Rattle.rules.specs.Statements.{present};
 ghost use Rattle.rules.specs.Patch.{begins_line, above, lines_from, bare_line, nearest, leaves_open};
 
@@ -13,7 +12,7 @@ use state::is_line_end;
 use state::source::Source;
 use statements::start;
 
-// 34.
+// 34. By its pattern, whose cases have their numbers: `==` gives that the reasons are equal, and needed a law that numbers tell all 33 apart.
 fn is_open(reason: Reason) -> bool
     ensures { result ≡ eqb (number_of reason) 34 }
 {
@@ -25,36 +24,32 @@ pub fn leaves_open(line: &[u8]) -> bool
     ensures { result ≡ leaves_open present line.now }
 {
     let mut nothing = [0u8; 0];
-    match full_read_lean(line, &mut nothing) {
-        Err(r) => is_open(r.reason),
-        Ok(_) => false,
-    }
+    full_read_lean(line, &mut nothing).is_err_and(|r| is_open(r.reason))
 }
 
 // Whether a line has only blanks and a comment.
-fn is_bare(line: &[u8]) -> bool
-    requires { Short line.now × (among 10 line.now ≡ false) }
-    ensures { result ≡ bare_line line.now }
+fn is_bare(line: Source<'_>) -> bool
+    requires { among 10 line.text.now ≡ false }
+    ensures { result ≡ bare_line line.entry.text.now }
 {
-    match start(Source { text: line }, 0) {
-        Err(_) => false,
-        Ok(p) => is_line_end(p.kind),
-    }
+    start(line, 0).is_ok_and(|p| is_line_end(p.kind))
 }
 
 // Whether the nearest line above a place that has more leaves a `times` open.
-pub fn nearest_open(source: &[u8], place: usize) -> bool
-    requires { Short source.now × (begins_line source.now place ≡ true) }
-    ensures { result ≡ maybe (nearest (lines_from [] (above source.now place))) false (leaves_open present) }
+pub fn nearest_open(source: Source<'_>, place: usize) -> bool
+    requires { begins_line source.text.now place ≡ true }
+    ensures { result ≡ maybe (nearest (lines_from [] (above source.entry.text.now place))) false (leaves_open present) }
 {
-    // no `for`: a step is a line, and its length is known when its start is found
+    // No `for`: `rsplit` was tried, with its proof, and takes an eighth more instructions where many bare lines stand above.
     let mut below = place;
     while 0 < below {
         let end = below - 1;
-        let begin = line_start(source, end);
-        let line = &source[begin..end];
+        let begin = line_start(source.text, end);
+        let line = Source {
+            text: &source.text[begin..end],
+        };
         if !is_bare(line) {
-            return leaves_open(line);
+            return leaves_open(line.text);
         }
         below = begin;
     }

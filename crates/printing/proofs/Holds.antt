@@ -24,11 +24,11 @@ sets_cut bs l =
     (λ h _. ap (sets (sets l 0 a) (0 + length a)) (drop_of_length-le bs h)) in
     ap (sets l 0) (sym (take-append-drop (length l) bs)) ∙ sets_append l 0 a b ∙ rest ∙ sets-eq a l 0 (omega arith) ∙ ap (λ (k : ℕ). a ++ drop k l) (zero-add (length a))
 
--- in the buffer l' that it has then
-pub holds : {bs l' : List ℕ} {t t' : Text} → Put bs t t' → t.at ≡ 0 → l' ≡ t'.out.now → Holds bs t.out.now l' t'.at
+-- By a text that begins at the head of the buffer l, which is l' then.
+pub holds : {bs l l' : List ℕ} {t t' : Text} → Put bs t t' → t.at ≡ 0 → t.out.now ≡ l → l' ≡ t'.out.now → Holds bs l l' t'.at
 unfolding stores overwrite
-holds {bs} {l'} {t} {t'} x z e =
-    let l : List ℕ = t.out.now in
+holds {bs} {l} {l'} {t} {t'} x z b e =
     let n : length (take (length l) bs) ≡ min (length l) (length bs) = length-take (length l) bs in
+    let k : length t.out.now ≡ length l = ap length b in
     let p = x.place in
-    record { text = e ∙ x.text ∙ ap (λ (i : ℕ). sets l i bs) z ∙ sets_cut bs l; size = omega arith }
+    record { text = e ∙ x.text ∙ rw (z, b) (sets_cut bs l); size = omega arith }

@@ -88,7 +88,7 @@ drop_bytes zero s h = h
 drop_bytes (suc n) [] h = h
 drop_bytes (suc n) (c ∷ s) h = drop_bytes n s (λ j. h (suc j))
 
--- the text of each shape
+-- the text of a record behind its mark
 pub fields_short : (n : ℕ) (s : List ℕ) → length (numbers (nths n s)) ≤ 6 * (4 * n) + 9
 fields_short n s = omega (arith, numbers_most (nths n s), nths_length 0 n s)
 

@@ -5,7 +5,6 @@ use mathlib.Core.Path.{◌≡◌, refl, sym, ap, ◌∙◌}
 use mathlib.Core.Bool.{Bool, true, false, ◌||◌, false≢true}
 use mathlib.Core.List.{List, [], ◌∷◌, ◌++◌, append_assoc, append-nil}
 use mathlib.Core.Option.{Option, none, some}
-use Rattle.std.specs.Prelude.{Some, None}
 use native.Mathlib.Omega.{arith}
 use lib.ListN.{length, take, drop, get_or, length-drop, length-take, length-append}
 use lib.Seq.{length-take-le, take_all}
@@ -19,11 +18,10 @@ use Rattle.records.specs.declared.marks.Mark.TheVariants as mark
 use Rattle.records.specs.Marks.{letters_of, is_known, count_of}
 use Rattle.records.proofs.Fields.{letters_of_lem}
 use Rattle.records.proofs.Marking.{cells_are, count_of_lem, known_none, known_some, or_other, data_mark}
-use Rattle.printing.specs.declared.Shape.TheVariants as shape
 use Rattle.text.specs.declared.Text.{Text}
 use Rattle.text.specs.Text.{decimal, signed, numbers, Put}
 use Rattle.printing.specs.Lines.{fields_text, line_of}
-use Rattle.printing.specs.Shapes.{nths, Lined, Shaped, Printed}
+use Rattle.printing.specs.Shapes.{nths, Lined, Printed}
 use Rattle.text.proofs.Puts.{numbers_append}
 
 -- A RECORD THAT IS NOT THERE: it has no description, or its bytes end too soon.
@@ -93,7 +91,7 @@ value_text f t v =
     ap (λ (y : List ℕ). 32 ∷ y) (append_assoc (decimal f) (32 ∷ (decimal t ++ [])) x ∙ ap (λ (y : List ℕ). decimal f ++ (32 ∷ y)) (append_assoc (decimal t) [] x)) in
     ap (λ (y : List ℕ). 32 ∷ (decimal f ++ (32 ∷ (decimal t ++ (32 ∷ y))))) (append-nil (signed v)) ∙ sym e ∙ sym (append_assoc (numbers (f ∷ t ∷ [])) (32 ∷ []) (signed v))
 
-pub value_there : (s : List ℕ) → 12 ≤ length s → Shaped (letters_of mark.VC) s (Some shape.Value)
+pub value_there : (s : List ℕ) → 12 ≤ length s → Lined (letters_of mark.VC) s 12 (numbers (nths 2 s) ++ bytes " " ++ signed (nth 2 s))
 unfolding record_of formed having line_of nths_from bytes
 value_there s h = record {
   what = VC (nth 0 s) (nth 1 s) (nth 2 s);
@@ -112,7 +110,7 @@ unfolding count_of
 data_fields e f h = let n = f ∙ ap (λ (x : Mark). count_of (letters_of x)) e in omega arith
 
 -- LD, whose bytes are as many as it says
-pub data_there : (s : List ℕ) (n : ℕ) → n ≡ nth 2 s → 12 + n ≤ length s → Shaped (letters_of mark.LD) s (Some (shape.Data n))
+pub data_there : (s : List ℕ) (n : ℕ) → n ≡ nth 2 s → 12 + n ≤ length s → Lined (letters_of mark.LD) s (12 + n) (numbers (nths 3 s) ++ numbers (take n (drop 12 s)))
 unfolding record_of formed data_at line_of nths_from no_signed bytes
 data_there s n e h =
     let d : List ℕ = take n (drop 12 s) in
@@ -130,7 +128,7 @@ data_there s n e h =
         ap (λ (x : List ℕ). x ++ numbers (n ∷ d)) (plain_text (a_place ∷ a_place ∷ []) (f ∷ t ∷ []) refl) ∙ sym (numbers_append (f ∷ t ∷ []) (n ∷ d)) ∙ numbers_append (f ∷ t ∷ n ∷ []) d in
         ap (λ (x : List ℕ). 76 ∷ 68 ∷ (x ++ bytes "\n")) a
 
-pub no_data : (s : List ℕ) → length s < 12 + nth 2 s → Shaped (letters_of mark.LD) s None
+pub no_data : (s : List ℕ) → length s < 12 + nth 2 s → record_of (letters_of mark.LD) s ≡ none
 unfolding record_of formed data_at
 no_data s h = rw (lt-leb (12 + nth 2 s) (length s) h)
 
@@ -143,7 +141,7 @@ line_is : (m ns : List ℕ) → no_signed (cells_of m) ≡ true → line_of (pla
 unfolding line_of
 line_is m ns h = ap (λ (t : List ℕ). m ++ t ++ bytes "\n") (plain_text (cells_of m) ns h)
 
-pub fields_there : (x : Mark) (n : ℕ) (s : List ℕ) → n ≡ count_of (letters_of x) → is_known (letters_of x) ≡ true → 4 * n ≤ length s → (x ≡ mark.VC → ⊥) → (x ≡ mark.LD → ⊥) → Shaped (letters_of x) s (Some (shape.Fields n))
+pub fields_there : (x : Mark) (n : ℕ) (s : List ℕ) → n ≡ count_of (letters_of x) → is_known (letters_of x) ≡ true → 4 * n ≤ length s → (x ≡ mark.VC → ⊥) → (x ≡ mark.LD → ⊥) → Lined (letters_of x) s (4 * n) (numbers (nths n s))
 unfolding bytes
 fields_there x n s e z h vc ld = go (form_of (letters_of x)) refl
   where

@@ -4,11 +4,9 @@ use Rattle.std.specs.Prelude.{Option, None, Some}
 use Rattle.std.proofs.Math.Option.{none, some}
 use Rattle.lexer.specs.Text.{bytes}
 use Rattle.rules.specs.Records.{Record}
-use Rattle.rules.specs.Decode.{nth, nths_from, record_of}
-use Rattle.printing.specs.declared.Shape.{Shape}
-use Rattle.printing.specs.declared.Shape.TheVariants as shape
+use Rattle.rules.specs.Decode.{nths_from, record_of}
 use Rattle.text.specs.declared.Text.{Text}
-use Rattle.text.specs.Text.{signed, numbers, Put}
+use Rattle.text.specs.Text.{Put}
 use Rattle.printing.specs.Lines.{line_of}
 
 -- The first n fields.
@@ -21,13 +19,6 @@ pub record Lined (m s : List ℕ) (size : ℕ) (text : List ℕ) : Type 0 where
   pub there : record_of m s ≡ some (record { what = what; size = 2 + size })
   pub fits : size ≤ length s
   pub said : line_of what ≡ m ++ text ++ bytes "\n"
-
--- How a record is printed, as the code has it: so many fields; VC; LD with so many bytes; or no record is there.
-abbrev pub Shaped : List ℕ → List ℕ → Option Shape → Type 0
-Shaped m s (Some (shape.Fields n)) = Lined m s (4 * n) (numbers (nths n s))
-Shaped m s (Some shape.Value) = Lined m s 12 (numbers (nths 2 s) ++ bytes " " ++ signed (nth 2 s))
-Shaped m s (Some (shape.Data n)) = Lined m s (12 + n) (numbers (nths 3 s) ++ numbers (take n (drop 12 s)))
-Shaped m s None = record_of m s ≡ none
 
 -- The record at the head of s is printed: its length; or none is there, and nothing is printed.
 pub record Printed (s : List ℕ) (size : ℕ) (old new : Text) : Type 0 where

@@ -1,29 +1,22 @@
 // What the program `listing` prints: a listing's records as lines, or a refusal.
 #![tactic(auto)]
 
-ghost use Rattle.std.specs.Prelude.{◌≡◌, [], ◌∷◌, ◌+◌, ◌*◌, ◌≤◌, length, take};
+ghost use Rattle.std.specs.Prelude.{◌≡◌, [], ◌∷◌, ◌+◌, ◌*◌, ◌≤◌, ◌++◌, length, take};
 ghost use Rattle.io.specs.Counts.{IsPrefixLen};
 ghost use Rattle.rules.specs.Statements.{present};
 ghost use Rattle.rules.specs.Calls.{full_buffer};
 ghost use Rattle.rules.specs.Decode.{nth};
 ghost use Rattle.refusals.specs.Refusals.{numbers as values_of};
+ghost use Rattle.records.specs.Marks.{letters_of};
 ghost use Rattle.text.specs.Text.{numbers, Put};
 ghost use Rattle.printing.specs.Holds.{Holds, Whole};
 ghost use Rattle.printing.specs.Lines.{line, text_of, refusal_text, answered, printed, records_in};
-ghost use Rattle.printing.specs.Shapes.{nths, Shaped, Prints};
+ghost use Rattle.printing.specs.Shapes.{nths, Prints};
 
 use reader::full_read;
 use records::marks::{Mark, field_at};
 use refusals::Refusal;
 use text::Text;
-
-// How a record is printed: so many fields; VC, whose value is signed; LD with so many bytes.
-#[derive(Drop)]
-enum Shape {
-    Fields(usize),
-    Value,
-    Data(usize),
-}
 
 // The i-th field behind a mark.
 #[tactic(auto, using(records::proofs::Fields::field_nth))]
@@ -31,38 +24,15 @@ fn field(s: &[u8], i: usize) -> u32
     requires { 4 * i + 4 ≤ length s.now }
     ensures { result ≡ nth i s.now }
 {
-    field_at(s, 4 * i) as u32
+    field_at(s, 4 * i)
 }
 
-// How the record with the mark of two letters is printed, whose other bytes are at the head of s.
-fn shape_of(a: u8, b: u8, s: &[u8]) -> Option<Shape>
-    ensures { Shaped (a ∷ b ∷ []) s.now result }
-{
-    let mark = Mark::of(a, b)?;
-    let n = mark.fields();
-    if s.len() < 4 * n {
-        return None;
-    }
-    match mark {
-        Mark::VC => Some(Shape::Value),
-        Mark::LD => {
-            let count = field(s, 2) as usize;
-            if s.len() - 12 < count {
-                return None;
-            }
-            Some(Shape::Data(count))
-        }
-        _ => Some(Shape::Fields(n)),
-    }
-}
-
-// The mark and the first n fields.
-fn put_fields(text: &mut Text, a: u8, b: u8, s: &[u8], n: usize)
+// The mark and the first n fields. Each by `field`, which VC and LD ask for one alone: chunks of 4 bytes would be a second way to read one.
+fn put_fields(text: &mut Text, mark: Mark, s: &[u8], n: usize)
     requires { 4 * n ≤ length s.now }
-    ensures { Put (a ∷ b ∷ numbers (nths n s.now)) text.old text.new }
+    ensures { Put (letters_of mark ++ numbers (nths n s.now)) text.old text.new }
 {
-    text.put(a);
-    text.put(b);
+    text.put_all(&mark.letters());
     for i in 0..n {
         text.put_number(u64::from(field(s, i)));
     }
@@ -75,21 +45,30 @@ fn put_record(text: &mut Text, s: &[u8]) -> Option<usize>
     let [a, b, rest @ ..] = s else {
         return None;
     };
-    let size = match shape_of(*a, *b, rest)? {
-        Shape::Fields(n) => {
-            put_fields(text, *a, *b, rest, n);
-            4 * n
-        }
-        Shape::Value => {
-            put_fields(text, *a, *b, rest, 2);
+    let mark = Mark::of(*a, *b)?;
+    let n = mark.fields();
+    if rest.len() < 4 * n {
+        return None;
+    }
+    let size = match mark {
+        Mark::VC => {
+            put_fields(text, mark, rest, 2);
             text.put(b' ');
             text.put_signed(field(rest, 2));
             12
         }
-        Shape::Data(n) => {
-            put_fields(text, *a, *b, rest, 3);
-            text.put_numbers(&rest[12..12 + n]);
-            12 + n
+        Mark::LD => {
+            let count = field(rest, 2) as usize;
+            if rest.len() - 12 < count {
+                return None;
+            }
+            put_fields(text, mark, rest, 3);
+            text.put_numbers(&rest[12..12 + count]);
+            12 + count
+        }
+        _ => {
+            put_fields(text, mark, rest, n);
+            4 * n
         }
     };
     text.put(b'\n');
@@ -109,7 +88,7 @@ fn listing_text(listing: &[u8], out: &mut [u8]) -> usize
     ensures holds { Holds (text_of (records_in 0 listing.now)) out.old out.new result }
     ensures listing_len_bound { length (text_of (records_in 0 listing.now)) ≤ 6 * length listing.now + 25 }
 {
-    let mut text = Text { out, at: 0 };
+    let mut text = Text::new(out);
     let mut at = 0;
     let mut count: u64 = 0;
     // no `for`: a step is a record, whose size is known when it is put
@@ -125,7 +104,7 @@ fn listing_text(listing: &[u8], out: &mut [u8]) -> usize
 fn refusal_text(r: &Refusal, out: &mut [u8]) -> usize
     ensures { Holds (refusal_text (values_of r.now)) out.old out.new result }
 {
-    let mut text = Text { out, at: 0 };
+    let mut text = Text::new(out);
     text.put_all(b"REF");
     let first = r.registers.first();
     let second = r.registers.second();
@@ -152,8 +131,8 @@ pub fn answer_text(source: &[u8], listing: &mut [u8], text: &mut [u8]) -> usize
 }
 
 // What the program `listing` prints of its input, of which n bytes were read: the text of the full read's answer, lent 65,536 bytes for the
-// listing. The input has one byte more than a source may have, so that a longer one is refused: it is an array with a length beside it, since
-// a slice could be lent shorter. The text has room for every answer.
+// listing. The input has one byte more than a source may have: it is an array, with a length beside it, so that no caller can lend fewer
+// bytes and have the listing of a source that was cut off printed. The text has room for every answer.
 pub fn input_text(
     input: &[u8; 65537],
     n: usize,

@@ -126,16 +126,21 @@ module _ (a : Ascii) {p : Parser} (b : Started a.source.text.now 0 p) where
         let u : length (listing first.v) ≤ length l = omega (arith, size_is) in
         written_as size_is (is_written s l (small s a.ascii) a.source.short first.reads u (e ∙ ap (λ (x : List ℕ). stores l 0 x) t ∙ stored_over l (listing first.v) u))
 
-  pub read_again : {o w : Writer} (begins : o.at ≡ 0) {q : Parser} → ReadsStatements operations s p o w (Ok q)
+  again : {o w : Writer} (begins : o.at ≡ 0) {q : Parser} → ReadsStatements operations s p o w (Ok q)
       → {o₂ w₂ : Writer} → o₂.at ≡ 0 → {q₂ : Parser} → ReadsStatements operations s p o₂ w₂ (Ok q₂) → w.at ≤ length o₂.out.now
       → {l' : List ℕ} → (o₂.out.ghost_name ≡ w₂.out.ghost_name → l' ≡ w₂.out.now) → ReadsAll s o₂.out.now l' (Ok w.at)
-  read_again i h {o₂} i₂ k f j =
+  again i h {o₂} i₂ k f j =
       let one = first i h in
       let two = first i₂ k in
       let same : one.v ≡ two.v = accepted_same (sym one.reads ∙ two.reads) in
       let c : length (listing one.v) ≡ length (listing two.v) = ap (λ (v : List Record). length (listing v)) same in
       let g : length (listing two.v) ≤ length o₂.out.now = omega (arith, size_is i h) in
       written_as (size_is i h ∙ c) (is_written s o₂.out.now (small s a.ascii) a.source.short two.reads g (j (sym two.puts.buffer) ∙ holds i₂ k g ∙ stored_over o₂.out.now (listing two.v) g))
+
+  pub read_again : {l : List ℕ} {o w : Writer} (begins : o.at ≡ 0) {q : Parser} → ReadsStatements operations s p o w (Ok q)
+      → {o₂ w₂ : Writer} → o₂.at ≡ 0 → o₂.out.now ≡ l → {q₂ : Parser} → ReadsStatements operations s p o₂ w₂ (Ok q₂) → w.at ≤ length l
+      → {l' : List ℕ} → (o₂.out.ghost_name ≡ w₂.out.ghost_name → l' ≡ w₂.out.now) → ReadsAll s l l' (Ok w.at)
+  read_again {w = w} i h i₂ e k f {l'} j = subst (λ (m : List ℕ). ReadsAll s m l' (Ok w.at)) e (again i h i₂ k (rw e f) j)
 
 -- What an accepted call has written.
 module _ (s l l' : List ℕ) (m : Small s) (short : length s ≤ 65536) where

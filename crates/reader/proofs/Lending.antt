@@ -2,14 +2,13 @@
 -- Assumes nothing.
 use Rattle.std.specs.Prelude.{Option as Maybe, Some, None, Result as Answer, Ok, Err, if◌then◌else◌}
 use Rattle.std.specs.Option.{MatchOption}
-use Rattle.std.specs.Result.{IsErrAnd}
-use Rattle.std.specs.List.{AllWithin, HoldsAt}
+use Rattle.std.specs.Result.{MatchResult, IsErrAnd}
+use Rattle.std.specs.List.{AllWithin, HoldsAt, fold}
 use Prim.Native.Nat.{ℕ, zero, suc, ◌+◌, ◌≤◌, ◌<◌}
 use mathlib.Core.Path.{◌≡◌, refl, sym, ap, subst, ◌∙◌}
 use mathlib.Core.Bool.{Bool, true, false, ◌&&◌}
 use mathlib.Core.List.{List, [], ◌∷◌}
 use mathlib.Core.Option.{Option, none, some}
-use mathlib.Core.Logic.{◌⊎◌, ⊎_elim}
 use native.Mathlib.Omega.{arith}
 use native.Mathlib.Nat.{le_refl}
 use native.Mathlib.Numerals.{add-one}
@@ -20,28 +19,19 @@ use borrow.Author.Tests.{lt-ltb, le-ltb, ltb-true, ltb-false, le-leb, lt-leb}
 use Rattle.lexer.specs.Text.{maybe}
 use Rattle.rules.specs.Reader.{Cause, at, nowhere, numbers_of}
 use Rattle.refusals.specs.declared.Refusal.{Refusal}
-use Rattle.refusals.specs.Refusals.{Numbers, numbers, by_numbers, spanned}
+use Rattle.refusals.specs.Refusals.{numbers, by_numbers, spanned}
 use Rattle.lexer.specs.Tokens.{token_at, size_of, fault_number}
 use Rattle.lexer.specs.Scanned.{next_of}
 use Rattle.lexer.proofs.TokensText.{token_at_le}
 use Rattle.lexer.specs.declared.Token.{Token}
 use Rattle.lexer.specs.declared.BadNumber.{BadNumber}
 use Rattle.lexer.specs.declared.Cursor.{Cursor}
-use Rattle.lexer.specs.declared.Fault.{Fault}
 use Rattle.lexer.specs.declared.TokenRead.{TokenRead}
 use Rattle.lexer.specs.declared.TokenRead.TheVariants as found
 use Rattle.rules.specs.Calls.{token_read, token_call, Result, gives, refuses, unless, most_bytes, too_long, foreign, ascii, lent, lent_at}
 use Rattle.reader.specs.declared.ascii.Ascii.{Ascii}
 use Rattle.reader.specs.Calls.{Lends, LendsAt, token_answer}
 use Rattle.reader.specs.Lent.{is_ascii, foreign_place, foreign_of}
-
--- `?` hands the same refusal on
-pub handed : {A : Type 0} (P : Answer A Refusal → Type 0) (r : Answer A Refusal) {x : Refusal} → IsErrAnd r (λ y. y ≡ x) → P (Err x) → P r
-handed P (Ok a) e h = absurd e
-handed P (Err y) e h = subst (λ (z : Refusal). P (Err z)) (sym e) h
-
-pub handed_numbers : {A : Type 0} (r : Answer A Refusal) (x : Refusal) {e : Answer A Numbers} → IsErrAnd r (λ y. y ≡ x) → by_numbers {A = A} (Err x) ≡ e → by_numbers r ≡ e
-handed_numbers {A} r x {e} = handed (λ (z : Answer A Refusal). by_numbers z ≡ e) r
 
 module _ (s : List ℕ) (i : ℕ) where
   pub foreign_here : i < length s → 127 < get_or s i 0 → foreign i (drop i s) ≡ some i
@@ -56,10 +46,6 @@ module _ (s : List ℕ) (i : ℕ) where
   unfolding foreign
   foreign_end h = rw (drop_of_length-le s h)
 
--- The bytes before i have `most` as their largest: the whole is asked of it and of the rest.
-abbrev pub Asked : List ℕ → ℕ → ℕ → Type 0
-Asked s i most = is_ascii s ≡ (leb most 127 && maybe (foreign i (drop i s)) true (λ p. false))
-
 and-true : (b : Bool) → (b && true) ≡ b
 and-true true = refl
 and-true false = refl
@@ -68,37 +54,36 @@ and-false : (b : Bool) → (b && false) ≡ false
 and-false true = refl
 and-false false = refl
 
-pub asked_starts : (s : List ℕ) → Asked s 0 0
+-- The larger of two bytes, and the largest of all: it is above 127 where any is.
+abbrev pub larger : ℕ → ℕ → ℕ
+larger most c = if ltb c most then most else c
+
+larger_above : (most c : ℕ) → 127 < c → leb (larger most c) 127 ≡ false
+larger_above most c h = go (ltb c most) (ltb-true c most)
+  where
+    go : (b : Bool) → (b ≡ true → c < most) → leb (if b then most else c) 127 ≡ false
+    go true f = let k = f refl in lt-leb most 127 (omega arith)
+    go false f = lt-leb c 127 h
+
+larger_within : (most c : ℕ) → c ≤ 127 → leb (larger most c) 127 ≡ leb most 127
+larger_within most c h = go (ltb c most) (ltb-false c most)
+  where
+    go : (b : Bool) → (b ≡ false → most ≤ c) → leb (if b then most else c) 127 ≡ leb most 127
+    go true f = refl
+    go false f = let k = f refl in le-leb c 127 h ∙ sym (le-leb most 127 (omega arith))
+
+asked_from : (i most : ℕ) (s : List ℕ) → leb (fold larger most s) 127 ≡ (leb most 127 && maybe (foreign i s) true (λ p. false))
+unfolding foreign
+asked_from i most [] = sym (and-true (leb most 127))
+asked_from i most (c ∷ s) = asked_from (suc i) (larger most c) s ∙ go (ltb 127 c) (ltb-true 127 c) (ltb-false 127 c)
+  where
+    go : (b : Bool) → (b ≡ true → 127 < c) → (b ≡ false → c ≤ 127) → (leb (larger most c) 127 && maybe (foreign (suc i) s) true (λ p. false)) ≡ (leb most 127 && maybe (if b then some i else foreign (suc i) s) true (λ p. false))
+    go true f g = rw (larger_above most c (f refl)) (sym (and-false (leb most 127)))
+    go false f g = rw (larger_within most c (g refl)) refl
+
+pub largest_asked : (s : List ℕ) {most : ℕ} → most ≡ fold larger 0 s → leb most 127 ≡ is_ascii s
 unfolding is_ascii
-asked_starts s = refl
-
-module _ (s : List ℕ) (i most : ℕ) (a : Asked s i most) where
-  pub asked_on : i < length s → (more : ℕ) → most ≤ more → get_or s i 0 ≤ more → (more ≡ most) ⊎ (more ≡ get_or s i 0) → Asked s (i + 1) more
-  asked_on h more p q e = by (ltb 127 (get_or s i 0)) (ltb-true 127 (get_or s i 0)) (ltb-false 127 (get_or s i 0))
-    where
-      low : get_or s i 0 ≤ 127 → leb more 127 ≡ leb most 127
-      low k =
-          ⊎_elim
-          (λ o. ap (λ (n : ℕ). leb n 127) o)
-          (λ o. le-leb more 127 (omega arith) ∙ sym (le-leb most 127 (omega arith)))
-          e
-
-      by : (b : Bool) → (b ≡ true → 127 < get_or s i 0) → (b ≡ false → get_or s i 0 ≤ 127) → Asked s (i + 1) more
-      by true f g =
-          let k : 127 < get_or s i 0 = f refl in
-          let z : leb more 127 ≡ false = lt-leb more 127 (omega arith) in
-          a
-          ∙ ap (λ (o : Option ℕ). leb most 127 && maybe o true (λ (n : ℕ). false)) (foreign_here s i h k)
-          ∙ and-false (leb most 127)
-          ∙ sym (ap (λ (b : Bool). b && maybe (foreign (i + 1) (drop (i + 1) s)) true (λ (n : ℕ). false)) z)
-      by false f g =
-          let k : get_or s i 0 ≤ 127 = g refl in
-          a
-          ∙ ap (λ (b : Bool). b && maybe (foreign i (drop i s)) true (λ (n : ℕ). false)) (sym (low k))
-          ∙ ap (λ (o : Option ℕ). leb more 127 && maybe o true (λ (n : ℕ). false)) (sym (foreign_on s i h k))
-
-  pub asked_end : length s ≤ i → leb most 127 ≡ is_ascii s
-  asked_end h = sym (a ∙ ap (λ (o : Option ℕ). leb most 127 && maybe o true (λ (n : ℕ). false)) (foreign_end s i h) ∙ and-true (leb most 127))
+largest_asked s e = ap (λ (n : ℕ). leb n 127) e ∙ asked_from 0 0 s
 
 foreign_inside : (p : ℕ) (s : List ℕ) (q : ℕ) → foreign p s ≡ some q → q < p + length s
 unfolding foreign
@@ -275,25 +260,30 @@ module _ (s : List ℕ) (p : ℕ) where
         go (found.Read u) e = cc
         go (found.Refused n f) e = cc
 
-    bad_is : {f g : Fault} {i j k l : ℕ} → ◌≡◌ {A = Answer (Token × Cursor) BadNumber} (Err (record { fault = f; from = i; to = j })) (Err (record { fault = g; from = k; to = l })) → (f ≡ g) × (i ≡ k) × (j ≡ l)
-    bad_is {f} {g} {i} {j} {k} {l} e =
-        let h : ◌≡◌ {A = BadNumber} (record { fault = f; from = i; to = j }) (record { fault = g; from = k; to = l }) = cc in
-        (ap (λ (b : BadNumber). b.fault) h, ap (λ (b : BadNumber). b.from) h, ap (λ (b : BadNumber). b.to) h)
-
-    pub token_refused : (r : Refusal) {f : Fault} {n i j : ℕ} → Err (record { fault = f; from = i; to = j }) ≡ next_of p (token_at (drop p s)) → n ≡ fault_number f → numbers r ≡ spanned n i j → by_numbers {A = Token × Cursor} (Err r) ≡ token_answer p (token_call s p)
-    token_refused r {f} {n} {i} {j} e k h = ap Err (h ∙ ap (λ (n : ℕ). spanned n i j) k) ∙ go (token_at (drop p s)) e ∙ ap (token_answer p) (sym call_is)
-      where
-        go : (x : TokenRead) → Err (record { fault = f; from = i; to = j }) ≡ next_of p x → Err (spanned (fault_number f) i j) ≡ token_answer p (token_read p x)
-        go (found.Read u) e = cc
-        go (found.Refused n g) e = let (h, l, m) = bad_is e in rw (h, l, m)
+    -- An accepted token is kept, and a refused number is refused by its number and span.
+    module _ (t : Answer (Token × Cursor) BadNumber) (m : Answer (Token × Cursor) Refusal) (Q : BadNumber → Refusal → Type 0) where
+      pub token_mapped : t ≡ next_of p (token_at (drop p s)) → MatchResult t (λ x. m ≡ Ok x) (λ b. IsErrAnd m (Q b)) → ((b : BadNumber) (r : Refusal) → Q b r → numbers r ≡ spanned (fault_number b.fault) b.from b.to) → by_numbers m ≡ token_answer p (token_call s p)
+      token_mapped e h k = go (token_at (drop p s)) t e m h ∙ ap (token_answer p) (sym call_is)
+        where
+          go : (x : TokenRead) (t : Answer (Token × Cursor) BadNumber) → t ≡ next_of p x → (m : Answer (Token × Cursor) Refusal) → MatchResult t (λ x. m ≡ Ok x) (λ b. IsErrAnd m (Q b)) → by_numbers m ≡ token_answer p (token_read p x)
+          go (found.Read u) (Ok y) e m h = cc
+          go (found.Read u) (Err b) e m h = cc
+          go (found.Refused n g) (Ok y) e m h = cc
+          go (found.Refused n g) (Err b) e (Ok y) h = absurd h
+          go (found.Refused n g) (Err b) e (Err r) h = let z = k b r h in cc
 
     -- a refused number stands within the source
-    pub within : {f : Fault} {i j : ℕ} → Err (record { fault = f; from = i; to = j }) ≡ next_of p (token_at (drop p s)) → (i ≤ 65536) × (j ≤ 65536)
-    within {f} {i} {j} e = go (token_at (drop p s)) (token_at_le (drop p s)) e
+    pub within : {b : BadNumber} → Err b ≡ next_of p (token_at (drop p s)) → (b.from ≤ 65536) × (b.to ≤ 65536)
+    within {b} e = go (token_at (drop p s)) (token_at_le (drop p s)) e
       where
         short : (length s ≤ 65536) × (p ≤ length s)
         short = let b = lent_at_accepted s (token_read p (token_at (drop p s))) p a in (b.1, b.3)
 
-        go : (x : TokenRead) → size_of x ≤ length (drop p s) → Err (record { fault = f; from = i; to = j }) ≡ next_of p x → (i ≤ 65536) × (j ≤ 65536)
+        go : (x : TokenRead) → size_of x ≤ length (drop p s) → Err b ≡ next_of p x → (b.from ≤ 65536) × (b.to ≤ 65536)
         go (found.Read u) k e = let z : ◌≡◌ {A = ℕ} 0 1 = cc in absurd (omega arith)
-        go (found.Refused n g) k e = let (h, l, m) = bad_is e in let q = length-drop p s in (omega (arith, short), omega (arith, short))
+        go (found.Refused n g) k e =
+            let h : b ≡ record { fault = g; from = p; to = p + n } = cc in
+            let l = ap (λ (b : BadNumber). b.from) h in
+            let m = ap (λ (b : BadNumber). b.to) h in
+            let q = length-drop p s in
+            (omega (arith, short), omega (arith, short))

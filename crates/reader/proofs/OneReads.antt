@@ -99,15 +99,19 @@ module _ (a : Ascii) (place : ℕ) (within : place ≤ length a.source.text.now)
     unfolding one_found in_room unless leaves found_bytes
     written {l} i e = record { answer = rw (given, le-ltb (length l) (length (listing first.v)) i); buffer = rw (given, le-ltb (length l) (length (listing first.v)) i) e }
 
-    pub read_again : {o₂ w₂ : Writer} → o₂.at ≡ 0 → (x : StatementRead) → ReadsStatement operations s p o₂ w₂ (Ok x) → w.at ≤ length o₂.out.now
+    again : {o₂ w₂ : Writer} → o₂.at ≡ 0 → (x : StatementRead) → ReadsStatement operations s p o₂ w₂ (Ok x) → w.at ≤ length o₂.out.now
         → {l' : List ℕ} → (o₂.out.ghost_name ≡ w₂.out.ghost_name → l' ≡ w₂.out.now) → OneRead s place o₂.out.now l' (Ok (Some (record { length = w.at; ahead = q.token_start })))
-    read_again i (read.NoneLeft q₂) k g j = absurd (never_other (sym first.reads ∙ k.so.comes.reads))
-    read_again {o₂} {w₂} i (read.Read q₂) k g {l'} j =
+    again i (read.NoneLeft q₂) k g j = absurd (never_other (sym first.reads ∙ k.so.comes.reads))
+    again {o₂} {w₂} i (read.Read q₂) k g {l'} j =
         let same : first.v ≡ k.so.v = done_same (sym first.reads ∙ k.so.reads) in
         let c : length (listing first.v) ≡ length (listing k.so.v) = ap (λ (v : List Record). length (listing v)) same in
         let f : length (listing k.so.v) ≤ length o₂.out.now = omega (arith, size_is) in
         let e : l' ≡ overwrite (listing k.so.v) o₂.out.now = j (sym k.so.puts.buffer) ∙ k.so.puts.wrote.wrote (omega (arith, i, little)) (omega (arith, i)) ∙ ap (λ (n : ℕ). stores o₂.out.now n (listing k.so.v)) i ∙ stored_over o₂.out.now (listing k.so.v) f in
         written_as size_is (written (omega arith) (e ∙ ap (λ (v : List Record). overwrite (listing v) o₂.out.now) (sym same)))
+
+    pub read_again : {l : List ℕ} {o₂ w₂ : Writer} → o₂.at ≡ 0 → o₂.out.now ≡ l → (x : StatementRead) → ReadsStatement operations s p o₂ w₂ (Ok x) → w.at ≤ length l
+        → {l' : List ℕ} → (o₂.out.ghost_name ≡ w₂.out.ghost_name → l' ≡ w₂.out.now) → OneRead s place l l' (Ok (Some (record { length = w.at; ahead = q.token_start })))
+    read_again i e x k g {l'} j = subst (λ (m : List ℕ). OneRead s place m l' (Ok (Some (record { length = w.at; ahead = q.token_start })))) e (again i x k (rw e g) j)
 
 -- The whole call.
 module _ (s : List ℕ) (p : ℕ) (l : List ℕ) where

@@ -2,17 +2,16 @@
 #![tactic(auto)]
 
 ghost use Rattle.std.specs.Prelude.{◌≡◌, ◌≤◌, length};
-ghost use Rattle.lexer.specs.Tokens.{fault_number};
-ghost use Rattle.refusals.specs.Refusals.{number_of, by_numbers};
+ghost use Rattle.refusals.specs.Refusals.{by_numbers};
 ghost use Rattle.rules.specs.Calls as rules;
 ghost use Rattle.rules.specs.Statements.{present};
 ghost use Rattle.reader.specs.Lent.{is_ascii, foreign_of};
 ghost use Rattle.reader.specs.Calls.{Lends, LendsAt, ReadsAll, OneRead, FullReads, token_answer, statement_answer};
 
 use ascii::Ascii;
-use lexer::{BadNumber, Cursor, Fault, Token};
-use records::Writer;
-use refusals::{Reason, Refusal, refused_at};
+use lexer::{Cursor, Token};
+use records::{Writer, copy};
+use refusals::{Reason, Refusal, refused_at, refused_nowhere};
 use state::source::Source;
 use statements::{StatementRead, start, statement, statements};
 
@@ -28,17 +27,12 @@ pub struct Written {
 // The most bytes that a source may have.
 pub const SOURCE_MAX: usize = 65536;
 
-// Whether no byte is above 127. Only the largest is asked, so that many bytes are taken at a time.
+// Whether no byte is above 127. Only the largest is asked, so that many bytes are taken at a time; the slice's own `is_ascii` goes byte by byte,
+// to the first.
 fn is_ascii(source: &[u8]) -> bool
     ensures { result ≡ is_ascii source.now }
 {
-    let mut most: u8 = 0;
-    for c in source {
-        if most < *c {
-            most = *c;
-        }
-    }
-    most <= 127
+    source.iter().fold(0, |most: u8, c| most.max(*c)) <= 127
 }
 
 // The place of the first byte above 127, if there is one.
@@ -56,7 +50,7 @@ pub fn readable(source: &[u8]) -> Result<Ascii<'_>, Refusal>
     ensures { Lends source.now result }
 {
     if SOURCE_MAX < source.len() {
-        return Err(refused_at(Reason::SourceTooLong, 0, 0));
+        return Err(refused_nowhere(Reason::SourceTooLong));
     }
     match foreign(source) {
         Some(place) => {
@@ -74,7 +68,7 @@ fn readable_at(source: &[u8], place: usize) -> Result<Ascii<'_>, Refusal>
     ensures { LendsAt source.now place result }
 {
     if source.len() < place {
-        return Err(refused_at(Reason::NoSuchPlace, 0, 0));
+        return Err(refused_nowhere(Reason::NoSuchPlace));
     }
     readable(source)
 }
@@ -88,19 +82,20 @@ fn kept_in<const N: usize>(source: Ascii<'_>, out: &mut [u8]) -> Result<u32, Ref
     let source = source.source;
     let table = names::operations();
     let p = start(source, 0)?;
+    // No heap: an array, of which the listing's length is known when it has been read.
     let mut buffer = [0u8; N];
     let kept: &mut [u8] = &mut buffer;
-    let mut first = Writer { out: kept, at: 0 };
+    let mut first = Writer::new(kept);
     statements(source, table, &mut first, p)?;
     let n = first.at;
     let size = n as usize;
     if out.len() < size {
-        Err(refused_at(Reason::ListingNoRoom, 0, 0))
+        Err(refused_nowhere(Reason::ListingNoRoom))
     } else if size <= N {
-        lines::copy(out, 0, &kept[0..size]);
+        copy(out, 0, &kept[0..size]);
         Ok(n)
     } else {
-        let mut again = Writer { out, at: 0 };
+        let mut again = Writer::new(out);
         statements(source, table, &mut again, p)?;
         Ok(n)
     }
@@ -141,18 +136,15 @@ fn read_one(source: Ascii<'_>, place: u32, out: &mut [u8]) -> Result<Option<Writ
     let table = names::operations();
     let p = start(source, place)?;
     let mut nothing = [0u8; 0];
-    let mut measured = Writer {
-        out: &mut nothing,
-        at: 0,
-    };
+    let mut measured = Writer::new(&mut nothing);
     let StatementRead::Read(q) = statement(source, table, &mut measured, p)? else {
         return Ok(None);
     };
     let length = measured.at;
     if out.len() < length as usize {
-        return Err(refused_at(Reason::ListingNoRoom, 0, 0));
+        return Err(refused_nowhere(Reason::ListingNoRoom));
     }
-    let mut written = Writer { out, at: 0 };
+    let mut written = Writer::new(out);
     statement(source, table, &mut written, p)?;
     Ok(Some(Written {
         length,
@@ -172,26 +164,15 @@ pub fn statement_read(
     read_one(readable_at(source, place)?, place as u32, out)
 }
 
-// No `From`, since the lexer has the one type and `refusals` the other.
-fn reason_of(fault: Fault) -> Reason
-    ensures { number_of result ≡ fault_number fault }
-{
-    match fault {
-        Fault::LargerDigit => Reason::BinaryLargerDigit,
-        Fault::TooLarge => Reason::PrefixedTooLarge,
-    }
-}
-
 // The token at a place, and the state behind it.
 pub fn token_read(source: &[u8], place: usize) -> Result<(Token, Cursor), Refusal>
     ensures { by_numbers result ≡ token_answer place (rules.token_call source.now place) }
 {
     readable_at(source, place)?;
     let cursor = Cursor { pos: place };
-    match cursor.next_token(source) {
-        Ok(read) => Ok(read),
-        Err(BadNumber { fault, from, to }) => {
-            Err(refused_at(reason_of(fault), from as u32, to as u32))
-        }
-    }
+    cursor.next_token(source).map_err(|bad| refused_at(
+        bad.fault.into(),
+        bad.from as u32,
+        bad.to as u32,
+    ))
 }

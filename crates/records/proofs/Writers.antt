@@ -1,19 +1,20 @@
 -- Bytes put by a writer, one run behind the other.
 -- Assumes nothing.
 use Prim.Native.Nat.{ℕ, ◌+◌, ◌-◌, ◌≤◌}
-use mathlib.Core.Path.{◌≡◌, refl, sym, subst, ◌∙◌}
+use mathlib.Core.Path.{◌≡◌, refl, sym, ap, subst, ◌∙◌}
 use mathlib.Core.Bool.{Bool, true, false}
 use mathlib.Core.List.{List, [], ◌∷◌, ◌++◌}
 use native.Mathlib.Omega.{arith}
 use native.Mathlib.Nat.{le_refl}
 use borrow.Author.Tests.{lt-leb}
 use lib.Dec.{leb}
+use lib.ListN.{length}
 use Rattle.std.specs.Prelude.{if◌then◌else◌}
 use Rattle.lexer.specs.Text.{bytes}
 use Rattle.rules.specs.Records.{LD, field, fields, encode}
 use Rattle.records.specs.declared.Writer.{Writer}
 use Rattle.records.specs.Writes.{limit, Wrote}
-use Rattle.records.specs.Writers.{Puts, behind_head, head, Begins, Ends}
+use Rattle.records.specs.Writers.{Puts, SameBuffer, behind_head, head, Begins, Ends}
 use Rattle.records.proofs.Writes.{nothing, follows, headed}
 
 -- nothing put
@@ -23,6 +24,19 @@ puts_nothing w = record { wrote = nothing w.at w.out.now; buffer = refl }
 -- a run put behind another
 pub puts_follow : (a b : List ℕ) {w₀ w₁ w₂ : Writer} → Puts a w₀ w₁ → Puts b w₁ w₂ → Puts (a ++ b) w₀ w₂
 puts_follow a b x y = record { wrote = follows a b x.wrote y.wrote; buffer = y.buffer ∙ x.buffer }
+
+-- the same buffer still: where nothing is put, where bytes are put, before and behind a record's data, and on from there
+pub same_still : (w : Writer) → SameBuffer w w
+same_still w = record { buffer = refl; long = refl }
+
+pub same_put : {bs : List ℕ} {w₀ w₁ : Writer} → Puts bs w₀ w₁ → SameBuffer w₀ w₁
+same_put x = record { buffer = x.buffer; long = x.wrote.long }
+
+pub same_begun : {w₀ w₁ : Writer} {start : ℕ} → Begins w₀ w₁ start → SameBuffer w₀ w₁
+same_begun x = record { buffer = x.buffer; long = ap length x.bytes }
+
+pub same_on : {w₀ w₁ w₂ : Writer} → SameBuffer w₀ w₁ → SameBuffer w₁ w₂ → SameBuffer w₀ w₂
+same_on x y = record { buffer = y.buffer ∙ x.buffer; long = y.long ∙ x.long }
 
 -- What its owner has of a lent buffer that was l, when a writer put bytes to it from its first byte on.
 pub lent : (bs : List ℕ) {w₀ w₁ : Writer} {l l' : List ℕ} → Puts bs w₀ w₁ → w₀.at ≡ 0 → w₀.out.now ≡ l → l' ≡ w₁.out.now → Wrote 0 bs l l' w₁.at

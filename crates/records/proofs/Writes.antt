@@ -7,7 +7,7 @@ use native.Mathlib.Omega.{arith}
 use native.Mathlib.Nat.{add-zero, add-suc, suc-add, le_refl, le_trans, zero-add}
 use native.Mathlib.Numerals.{add-one}
 use lib.ListN.{length, length-append, set, take, drop, get_or, length-drop}
-use lib.Seq.{sets, sets-eq, length-sets, set_comm, take-set-le, take-take, take_all, take-append_seam}
+use lib.Seq.{length-take-le, take-suc, sets, sets-eq, length-sets, set_comm, take-set-le, take-take, take_all, take-append_seam}
 use Rattle.rules.specs.Calls.{overwrite}
 use Rattle.rules.specs.Records.{field, fields, plain, encode}
 use Rattle.records.specs.Writes.{stores, limit, Wrote}
@@ -43,19 +43,20 @@ unfolding stores
 stores_room l at bs h = sets-eq bs l at h
 
 -- a run that has room; one that has none; one that would pass the limit
-pub has_room : {at r : ℕ} {bs l l' : List ℕ} → l' ≡ stores l at bs → r ≡ at + length bs → Wrote at bs l l' r
-has_room {at} {bs = bs} {l} e k = record { long = ap length e ∙ stores_length l at bs; below = ap (take at) e ∙ stores_below l at bs; grows = omega arith; place = λ _. k; wrote = λ _ _. e }
+pub has_room : {at r : ℕ} {bs l l' : List ℕ} → at ≤ r → (at + length bs ≤ limit → r ≡ at + length bs) → l' ≡ stores l at bs → Wrote at bs l l' r
+has_room {at} {bs = bs} {l} g k e = record { long = ap length e ∙ stores_length l at bs; below = ap (take at) e ∙ stores_below l at bs; grows = g; place = k; wrote = λ _ _. e }
 
-pub no_room : {at r : ℕ} {bs l : List ℕ} → length l < at + length bs → r ≡ at + length bs → Wrote at bs l l r
-no_room h k = record { long = refl; below = refl; grows = omega arith; place = λ _. k; wrote = λ _ f. absurd (omega arith) }
-
-pub beyond : {at : ℕ} {bs l : List ℕ} → limit < at + length bs → Wrote at bs l l at
-beyond {at} h = record { long = refl; below = refl; grows = le_refl at; place = λ f. absurd (omega arith); wrote = λ f _. absurd (omega arith) }
+pub no_room : {at r : ℕ} {bs l : List ℕ} → at ≤ r → (at + length bs ≤ limit → r ≡ at + length bs) → length l < at + length bs → Wrote at bs l l r
+no_room g k h = record { long = refl; below = refl; grows = g; place = k; wrote = λ _ f. absurd (omega arith) }
 
 -- nothing written
 pub nothing : (at : ℕ) (l : List ℕ) → Wrote at [] l l at
 unfolding stores
 nothing at l = record { long = refl; below = refl; grows = le_refl at; place = λ _. sym (add-zero at); wrote = λ _ _. refl }
+
+pub beyond : {at : ℕ} (bs : List ℕ) {l : List ℕ} → limit ≤ at → Wrote at bs l l at
+beyond {at} [] {l} h = nothing at l
+beyond {at} (b ∷ bs) h = record { long = refl; below = refl; grows = le_refl at; place = λ f. absurd (omega arith); wrote = λ f _. absurd (omega arith) }
 
 -- a run written behind another
 pub follows : {at w r : ℕ} (a b : List ℕ) {l l₁ l₂ : List ℕ} → Wrote at a l l₁ w → Wrote w b l₁ l₂ r → Wrote at (a ++ b) l l₂ r
@@ -111,18 +112,22 @@ headed {at} {first} {w} {r} {k} head b {l} {l₁} {l₂} long h f x y = record {
       e₂ ∙ rw e₁ (stored_before l at (head (length b)) b);
 }
 
--- bytes stored one after the other by straight-line code
-pub two : (l : List ℕ) (i a b : ℕ) → set (set l i a) (i + 1) b ≡ stores l i (a ∷ b ∷ [])
+-- No byte of a run.
+pub stored_none : (l : List ℕ) (at : ℕ) (run : List ℕ) → l ≡ stores l at (take 0 run)
 unfolding stores
-two l i a b = rw add-one
+stored_none l at run = refl
 
-pub four : (l : List ℕ) (i a b c d : ℕ) → set (set (set (set l i a) (i + 1) b) (i + 2) c) (i + 3) d ≡ stores l i (a ∷ b ∷ c ∷ d ∷ [])
+-- One byte more of a run.
+pub stored_more : (l run : List ℕ) (at i : ℕ) → i < length run → set (stores l at (take i run)) (at + i) (get_or run i 0) ≡ stores l at (take (i + 1) run)
 unfolding stores
-four l i a b c d =
-    let e : i + 1 ≡ suc i = omega arith in
-    let f : i + 2 ≡ suc (suc i) = omega arith in
-    let g : i + 3 ≡ suc (suc (suc i)) = omega arith in
-    rw (e, f, g)
+stored_more l run at i h =
+    let n : length (take i run) ≡ i = length-take-le i run (omega arith) in
+    sym (rw (add-one i, take-suc run i 0 h, stores_append l at (take i run) (get_or run i 0 ∷ []), n))
+
+-- a field's bytes, of a number that has more
+pub four_of : (v : ℕ) (r : List ℕ) {b : List ℕ} → b ≡ field v ++ r → get_or b 0 0 ∷ get_or b 1 0 ∷ get_or b 2 0 ∷ get_or b 3 0 ∷ [] ≡ field v
+unfolding field
+four_of v r e = rw e
 
 -- bytes stored from the first on
 pub stored_over : (l b : List ℕ) → length b ≤ length l → stores l 0 b ≡ overwrite b l

@@ -1,5 +1,5 @@
 -- Bytes put by a writer.
-use Rattle.std.specs.Prelude.{◌≡◌, List, [], ◌∷◌, ℕ, ◌+◌, ◌-◌, leb, if◌then◌else◌}
+use Rattle.std.specs.Prelude.{◌≡◌, List, [], ◌∷◌, ℕ, ◌+◌, ◌-◌, leb, length, if◌then◌else◌}
 use Rattle.lexer.specs.Text.{bytes}
 use Rattle.rules.specs.Records.{plain, encode}
 use Rattle.records.specs.declared.Writer.{Writer}
@@ -10,6 +10,11 @@ use Rattle.records.specs.Writes.{limit, Wrote}
 pub record Puts (bs : List ℕ) (old new : Writer) : Type 0 where
   pub wrote : Wrote old.at bs old.out.now new.out.now new.at
   pub buffer : new.out.ghost_name ≡ old.out.ghost_name
+
+-- A writer whose buffer is the one that it was, and as long; its bytes and the place are free.
+pub record SameBuffer (old new : Writer) : Type 0 where
+  pub buffer : new.out.ghost_name ≡ old.out.ghost_name
+  pub long : length new.out.now ≡ length old.out.now
 
 -- The place behind the first 14 bytes of LD's record.
 unfoldable pub behind_head : ℕ → ℕ

@@ -4,11 +4,12 @@
 
 pub mod marks;
 pub mod moves;
+pub mod shift;
 
-ghost use Rattle.std.specs.Prelude.{◌≡◌, [], ◌∷◌};
+ghost use Rattle.std.specs.Prelude.{◌≡◌, ◌+◌, ◌≤◌, length};
 ghost use Rattle.rules.specs.Records.{field, plain, encode};
 ghost use Rattle.records.specs.Marks.{letters_of};
-ghost use Rattle.records.specs.Writes.{Wrote};
+ghost use Rattle.records.specs.Writes.{stores, Wrote};
 ghost use Rattle.records.specs.Writers.{Puts, Begins, Ends, behind_head, head};
 
 use marks::Mark;
@@ -16,61 +17,41 @@ use marks::Mark;
 // No place of a listing comes near it, so places can't run over.
 const LIMIT: u32 = 2147483648;
 
-// The writer's steps take the place and give it: a method that went from piece to piece by `self.at` would write and read it in memory
-// for each, which was 10 % slower in a whole read.
-fn put(out: &mut [u8], at: u32, b: u8) -> u32
-    ensures { Wrote at (b ∷ []) out.old out.new result }
+// Bytes copied to a place, one by one: the slice's own copy would need the C library's `memmove`. By index: with `iter_mut().zip(run)` the
+// proof did not close, since behind an adapter of `iter_mut` it is not known what was written. The place goes beside the buffer, since what is
+// written is said of all of it.
+pub fn copy(out: &mut [u8], at: usize, run: &[u8])
+    requires { at + length run.now ≤ length out.old }
+    ensures { out.new ≡ stores out.old at run.now }
 {
-    if LIMIT <= at {
-        return at;
+    for (i, b) in run.iter().enumerate() {
+        out[at + i] = *b;
     }
-    let i = at as usize;
-    if i < out.len() {
-        out[i] = b;
-        return at + 1;
-    }
-    at + 1
 }
 
-fn put_two(out: &mut [u8], at: u32, m: u8, n: u8) -> u32
-    ensures { Wrote at (m ∷ n ∷ []) out.old out.new result }
+// N bytes put where there is room. The writer's steps take the place and give it: a method that went from piece to piece by `self.at` would
+// write and read it in memory for each, which was 10 % slower in a whole read.
+fn put<const N: usize>(out: &mut [u8], at: u32, bytes: [u8; N]) -> u32
+    ensures { Wrote at bytes.entry out.old out.new result }
 {
     if LIMIT <= at {
         return at;
     }
-    let i = at as usize;
-    if i + 2 <= out.len() {
-        out[i] = m;
-        out[i + 1] = n;
-        return at + 2;
+    let from = at as usize;
+    // Both ways give the place behind, each with its own proof; `min` only says to the cast that it fits.
+    if from + N <= out.len() {
+        copy(out, from, &bytes);
+        return at + N.min(LIMIT as usize) as u32;
     }
-    at + 2
-}
-
-fn put_field(out: &mut [u8], at: u32, v: u32) -> u32
-    ensures { Wrote at (field v) out.old out.new result }
-{
-    if LIMIT <= at {
-        return at;
-    }
-    let i = at as usize;
-    if i + 4 <= out.len() {
-        out[i] = (v % 256) as u8;
-        out[i + 1] = (v / 256 % 256) as u8;
-        out[i + 2] = (v / 65536 % 256) as u8;
-        out[i + 3] = (v / 16777216 % 256) as u8;
-        return at + 4;
-    }
-    at + 4
+    at + N.min(LIMIT as usize) as u32
 }
 
 fn put_record<const N: usize>(out: &mut [u8], at: u32, mark: Mark, numbers: [u32; N]) -> u32
     ensures { Wrote at (encode (plain (letters_of mark) numbers.entry)) out.old out.new result }
 {
-    let [m, n] = mark.letters();
-    let mut w = put_two(out, at, m, n);
+    let mut w = put(out, at, mark.letters());
     for v in numbers {
-        w = put_field(out, w, v);
+        w = put(out, w, v.to_le_bytes());
     }
     w
 }
@@ -94,18 +75,19 @@ pub struct Writer<'a> {
 }
 
 impl<'a> Writer<'a> {
-    // A byte of data.
-    pub fn put(&mut self, b: u8)
-        ensures { Puts (b ∷ []) self.old self.new }
+    // A writer at the head of a buffer.
+    pub fn new(out: &'a mut [u8]) -> Writer<'a>
+        ensures buffer { result.out ≡ out.entry }
+        ensures place { result.at ≡ 0 }
     {
-        self.at = put(self.out, self.at, b);
+        Writer { out, at: 0 }
     }
 
-    // A word of data.
-    pub fn put_two(&mut self, m: u8, n: u8)
-        ensures { Puts (m ∷ n ∷ []) self.old self.new }
+    // Bytes of data.
+    pub fn put<const N: usize>(&mut self, bytes: [u8; N])
+        ensures { Puts «bytes».entry self.old self.new }
     {
-        self.at = put_two(self.out, self.at, m, n);
+        self.at = put(self.out, self.at, bytes);
     }
 
     // A record without data.

@@ -26,8 +26,9 @@ pub enum Mark {
 }
 
 impl Mark {
-    // The mark of two letters, if a record has it. Always inline: a call took a third of the check's time, and inline no answer is made, since
-    // each arm goes on to the caller's.
+    // The mark of two letters, if a record has it. No `TryFrom<[u8; 2]>`: most pairs of letters are no mark, and the callers want an Option,
+    // as `char::from_u32` gives one. Always inline: a call took a third of the check's time, and inline no answer is made, since each arm
+    // goes on to the caller's.
     #[tactic(auto, unfolding(crate::specs::Marks::is_known, lexer::specs::Text::bytes))]
     #[inline(always)]
     pub fn of(a: u8, b: u8) -> Option<Mark>
@@ -85,9 +86,9 @@ impl Mark {
 // The field at a place.
 #[tactic(auto, using(crate::proofs::Fields::field_joined))]
 #[inline]
-pub fn field_at(s: &[u8], at: usize) -> usize
+pub fn field_at(s: &[u8], at: usize) -> u32
     requires { at + 4 ≤ length s.now }
-    ensures { (result ≡ field_at s.now at) × (result < 4294967296) }
+    ensures { result ≡ field_at s.now at }
 {
-    u32::from_le_bytes([s[at], s[at + 1], s[at + 2], s[at + 3]]) as usize
+    u32::from_le_bytes([s[at], s[at + 1], s[at + 2], s[at + 3]])
 }

@@ -6,9 +6,13 @@ ghost use Rattle.rules.specs.Patch.{statement_from};
 ghost use Rattle.records.specs.Writes.{stores};
 ghost use Rattle.records.specs.Moves.{Decodes, Opens, First, records_at, record_at, move_field, moved_bytes};
 
+use super::copy;
 use super::marks::{Mark, field_at};
+use super::shift::Shift;
 
-// The mark of the record at a place.
+// The mark of the record at a place. `Decodes` is a clause and no struct's, as `Opens` is: the slice is read by one walk and written by
+// another, and from each step on it holds of another place. The place goes beside the slice, which is no tail from it on: what stands at a
+// place is said of the whole listing, and of a tail that is written each step would have to say that the rest stays.
 #[inline(always)]
 fn mark_at(s: &[u8], at: usize) -> Mark
     requires { Decodes s.now at × (at < length s.now) }
@@ -26,7 +30,7 @@ pub fn size(s: &[u8], at: usize, mark: Mark) -> usize
 {
     let fields = 2 + 4 * mark.fields();
     match mark {
-        Mark::LD => fields + field_at(s, at + 10),
+        Mark::LD => fields + field_at(s, at + 10) as usize,
         _ => fields,
     }
 }
@@ -38,7 +42,7 @@ fn starts(s: &[u8], at: usize, mark: Mark, place: usize) -> bool
     ensures { result ≡ statement_from place (record_at s.now at) }
 {
     match mark {
-        Mark::ST => place <= field_at(s, at + 2),
+        Mark::ST => place <= field_at(s, at + 2) as usize,
         _ => false,
     }
 }
@@ -61,51 +65,50 @@ pub fn first_from(listing: &[u8], from: usize, place: usize) -> usize
 }
 
 // A field moved in its place.
-fn move_field(s: &mut [u8], at: usize, q: usize, p: usize)
-    requires { (at + 4 ≤ length s.old) × (q ≤ 65536) }
-    ensures { s.new ≡ move_field q p s.old at }
+fn move_field(s: &mut [u8], at: usize, shift: Shift)
+    requires { at + 4 ≤ length s.old }
+    ensures { s.new ≡ move_field shift.new shift.old s.old at }
 {
-    let moved = (field_at(s, at) + q).saturating_sub(p).to_le_bytes();
-    // byte by byte: `copy_from_slice` would need memmove
-    s[at] = moved[0];
-    s[at + 1] = moved[1];
-    s[at + 2] = moved[2];
-    s[at + 3] = moved[3];
+    let moved = (field_at(s, at) as usize + shift.new).saturating_sub(shift.old);
+    // the low four bytes, since a cast to 32 bits would have to fit
+    let [a, b, c, d, ..] = moved.to_le_bytes();
+    copy(s, at, &[a, b, c, d]);
 }
 
 // The record at a place moved: ST's place, or its spans.
+#[tactic(auto, using(crate::proofs::OneRecord::room_line))]
 #[inline]
-fn move_record(s: &mut [u8], at: usize, mark: Mark, q: usize, p: usize)
-    requires { Opens s.old at mark × (q ≤ 65536) }
-    ensures { s.new ≡ stores s.old at (encode (move_record (λ k. k + q - p) (record_at s.old at))) }
+fn move_record(s: &mut [u8], at: usize, mark: Mark, shift: Shift)
+    requires { Opens s.old at mark }
+    ensures { s.new ≡ stores s.old at (encode (move_record (λ k. k + shift.new - shift.old) (record_at s.old at))) }
 {
     match mark {
         Mark::LT => {}
-        Mark::ST => move_field(s, at + 2, q, p),
+        Mark::ST => move_field(s, at + 2, shift),
         Mark::LI => {
-            move_field(s, at + 2, q, p);
-            move_field(s, at + 6, q, p);
-            move_field(s, at + 18, q, p);
-            move_field(s, at + 22, q, p);
+            move_field(s, at + 2, shift);
+            move_field(s, at + 6, shift);
+            move_field(s, at + 18, shift);
+            move_field(s, at + 22, shift);
         }
         _ => {
-            move_field(s, at + 2, q, p);
-            move_field(s, at + 6, q, p);
+            move_field(s, at + 2, shift);
+            move_field(s, at + 6, shift);
         }
     }
 }
 
 // A listing moved.
-pub fn move_all(s: &mut [u8], q: usize, p: usize)
-    requires { Decodes s.old 0 × (q ≤ 65536) }
-    ensures { s.new ≡ moved_bytes q p (records_at s.old 0) }
+pub fn move_all(s: &mut [u8], shift: Shift)
+    requires { Decodes s.old 0 }
+    ensures { s.new ≡ moved_bytes shift.new shift.old (records_at s.old 0) }
 {
     // no `for`: a step is a record's size, and `s` is written meanwhile
     let mut i: usize = 0;
     while i < s.len() {
         let mark = mark_at(s, i);
         let n = size(s, i, mark);
-        move_record(s, i, mark, q, p);
+        move_record(s, i, mark, shift);
         i += n;
     }
 }

@@ -17,6 +17,10 @@ pub record Numbers : Type 0 where
 abbrev pub spanned : (number from to : ℕ) → Numbers
 spanned n f t = record { number = n; from = f; to = t; first = 255; second = 255 }
 
+-- a refusal without a span, which is 0 to 0 then
+abbrev pub spanless : (number : ℕ) → Numbers
+spanless n = spanned n 0 0
+
 -- The number of each reason. RULES 11.
 abbrev pub number_of : Reason → ℕ
 number_of reason.SourceTooLong = 1

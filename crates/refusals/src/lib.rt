@@ -2,7 +2,7 @@
 #![tactic(auto)]
 
 ghost use Rattle.std.specs.Prelude.{◌≡◌};
-ghost use Rattle.refusals.specs.Refusals.{number_of, first_of, second_of, numbers, spanned};
+ghost use Rattle.refusals.specs.Refusals.{number_of, first_of, second_of, numbers, spanned, spanless};
 
 // Why something is refused, with the number that the rules give it.
 #[derive(Clone, Copy, PartialEq, Eq)]
@@ -50,6 +50,7 @@ pub enum Reason {
 }
 
 impl Reason {
+    // The number that the rules give it. A method and no `From`, so that a caller's line says what the u32 is.
     pub fn number(self) -> u32
         ensures { result ≡ number_of self }
     {
@@ -66,7 +67,7 @@ pub enum Registers {
 }
 
 impl Registers {
-    // The first one's number, or 255.
+    // The first one's number, or 255: C and the listing's text have two numbers at every refusal.
     pub fn first(self) -> u32
         ensures { result ≡ first_of self }
     {
@@ -88,7 +89,8 @@ impl Registers {
 }
 
 // A span, the reason and registers. The bytes stand together where the parser's state has its kind: a Result of the one or the other is copied
-// word by word then, and where a byte of the one met a word of the other a full read took 8 % longer.
+// word by word then, and where a byte of the one met a word of the other a full read took 8 % longer. The span is no struct of its own: C and the
+// records have its two numbers as fields, and few functions take both.
 #[derive(Clone, Copy)]
 pub struct Refusal {
     pub from: u32,
@@ -107,4 +109,11 @@ pub fn refused_at(reason: Reason, from: u32, to: u32) -> Refusal
         reason,
         registers: Registers::None,
     }
+}
+
+// A refusal of the whole call, which has no place: the rules give it the span 0 to 0.
+pub fn refused_nowhere(reason: Reason) -> Refusal
+    ensures { numbers result ≡ spanless (number_of reason) }
+{
+    refused_at(reason, 0, 0)
 }

@@ -15,7 +15,7 @@ ghost use Rattle.std.specs.Prelude.{◌≤◌, ◌<◌, length};
 use input::read_input;
 use std::io;
 
-// The value of a digit; of a byte that is none, 0.
+// The value of a digit; of a byte that is none, 0. No `char::to_digit`: that takes capitals too.
 fn digit(b: u8) -> u8
     ensures { result < 16 }
 {
@@ -92,6 +92,7 @@ fn unescape(line: &[u8], source: &mut [u8]) -> usize
 
 // Each line in turn: the line itself, and the answer. The buffer is twice as long as what is recorded; what it doesn't hold is not read.
 fn main(rt: HostRuntime) -> io::Result<()> {
+    // no heap: arrays, and how many bytes of them were read or written
     let mut input = [0u8; 131072];
     let mut source = [0u8; 65537];
     let mut listing = [0u8; 65536];

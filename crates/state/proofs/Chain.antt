@@ -8,10 +8,12 @@ use lib.ListN.{length}
 use Rattle.rules.specs.Records.{Record, encode, listing}
 use Rattle.rules.specs.Reader.{Answer, done, refused, Reader, Line, after, thence, ◌>>=◌, return, write, refuse, or_back, attempt, ahead, kind, passed, left, refuse_here, Cause, at as at_span, numbers_of}
 use Rattle.rules.specs.Statements.{over, in_line}
-use Rattle.std.specs.Prelude.{Result, Ok, Err}
+use Rattle.std.specs.Prelude.{Result, Ok, Err, IsErrAnd}
+use Rattle.std.proofs.lemmas.Result.{err_from_is_err_and}
 use Rattle.records.specs.declared.Writer.{Writer}
-use Rattle.records.specs.Writers.{Puts}
+use Rattle.records.specs.Writers.{Puts, SameBuffer}
 use Rattle.records.proofs.Writes.{follows, nothing}
+use Rattle.records.proofs.Writers.{same_still, same_put, same_on}
 use Rattle.state.specs.declared.Parser.{Parser}
 use Rattle.refusals.specs.declared.Refusal.{Refusal}
 use Rattle.refusals.specs.Refusals.{numbers}
@@ -100,20 +102,35 @@ module _ {L : Level} {s : List ℕ} {p q : Parser} {A : Type 0} {m : Reader (On 
     pub comes : {q₂ : Parser} {b : B} → Comes L s q m₁ q₂ b → Sofar L s p m o q₂ (k b) n
     comes h = called (still n h)
 
--- the answers of the code
-module _ {L : Level} {s : List ℕ} {p : Parser} {m : Reader (On L) (Unit {0})} {o n : Writer} where
-  pub reads_done : {q : Parser} → Gives L s p m o n q tt → Reads L s p m o n (Ok q)
-  reads_done h = record { so = h }
+-- what the exit of a `?` returns
+pub exits : {T E : Type 0} {x : E} {r : Result T E} → IsErrAnd r (λ y. y ≡ x) → r ≡ Err x
+exits {r = r} h = let e = err_from_is_err_and r h in e.1 ∙ ap (λ y. Err y) e.2
 
-  pub reads_refused : {r : Refusal} → Denies L s p m r → Reads L s p m o n (Err r)
-  reads_refused h = record { so = h }
+-- The writer of a reader that has come so far has the same buffer.
+pub lent_sofar : {L : Level} {s : List ℕ} {p q : Parser} {A : Type 0} {m m₁ : Reader (On L) A} {o n : Writer} → Sofar L s p m o q m₁ n → SameBuffer o n
+lent_sofar so = same_put so.puts
+
+-- the answers of the code
+module _ {L : Level} {s : List ℕ} {p : Parser} {m : Reader (On L) (Unit {0})} {o : Writer} where
+  pub reads_done : {n : Writer} {q : Parser} → Gives L s p m o n q tt → Reads L s p m o n (Ok q)
+  reads_done h = record { so = h; lent = same_put h.puts }
+
+  -- refused before anything is written, and behind it
+  pub reads_refused : {r : Refusal} → Denies L s p m r → Reads L s p m o o (Err r)
+  reads_refused h = record { so = h; lent = same_still o }
+
+  pub reads_refused_on : {n : Writer} {r : Refusal} → SameBuffer o n → Denies L s p m r → Reads L s p m o n (Err r)
+  reads_refused_on k h = record { so = h; lent = k }
 
 module _ {L : Level} {s : List ℕ} {p : Parser} {A B : Type 0} {seen : B → A} {m : Reader (On L) A} where
   pub reads_with : {o n : Writer} {q : Parser} {b : B} → Gives L s p m o n q (seen b) → ReadsWith L s p seen m o n (Ok (q, b))
-  reads_with h = record { so = h }
+  reads_with h = record { so = h; lent = same_put h.puts }
 
-  pub reads_denied : {o n : Writer} {r : Refusal} → Denies L s p m r → ReadsWith L s p seen m o n (Err r)
-  reads_denied h = record { so = h }
+  pub reads_denied : {o : Writer} {r : Refusal} → Denies L s p m r → ReadsWith L s p seen m o o (Err r)
+  reads_denied {o} h = record { so = h; lent = same_still o }
+
+  pub reads_denied_on : {o n : Writer} {r : Refusal} → SameBuffer o n → Denies L s p m r → ReadsWith L s p seen m o n (Err r)
+  reads_denied_on k h = record { so = h; lent = k }
 
   pub looks_comes : {q : Parser} {b : B} → Comes L s p m q (seen b) → Looks L s p seen m (Ok (q, b))
   looks_comes h = record { so = h }
@@ -175,7 +192,7 @@ module _ {s : List ℕ} {p : Parser} {A : Type 0} {m : Reader Line A} where
 -- what is left is another function's
 pub hands_on : {L : Level} {s : List ℕ} {p q : Parser} {m m₁ : Reader (On L) (Unit {0})} {o n w : Writer} {r : Result Parser Refusal}
     → Sofar L s p m o q m₁ n → Reads L s q m₁ n w r → Reads L s p m o w r
-hands_on {L} {s} {p} {q} {m} {m₁} {o} {n} {w} {r} so h = record { so = go r h.so }
+hands_on {L} {s} {p} {q} {m} {m₁} {o} {n} {w} {r} so h = record { so = go r h.so; lent = same_on (lent_sofar so) h.lent }
   where
     go : (r : Result Parser Refusal) → ReadsAs L s q m₁ n w r → ReadsAs L s p m o w r
     go (Ok q₂) k = ends so k
@@ -222,7 +239,7 @@ module _ {L : Level} {s : List ℕ} {p : Parser} {m m₁ : Reader (On L) (Unit {
       go (Err r) h = denied_by h
 
   pub reads_by : {o n : Writer} {r : Result Parser Refusal} → Reads L s p m₁ o n r → Reads L s p m o n r
-  reads_by {o} {n} {r} h = record { so = go r h.so }
+  reads_by {o} {n} {r} h = record { so = go r h.so; lent = h.lent }
     where
       go : (r : Result Parser Refusal) → ReadsAs L s p m₁ o n r → ReadsAs L s p m o n r
       go (Ok q) h = record { v = h.v; reads = e ∙ h.reads; kept = h.kept; puts = h.puts }

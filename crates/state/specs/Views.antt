@@ -8,10 +8,11 @@ use Rattle.rules.specs.Statements.{Row, State, rows}
 use Rattle.lexer.specs.declared.Kind.{Kind as TokenKind}
 use Rattle.lexer.specs.Scanned.{number_of as kind_number}
 use Rattle.records.specs.declared.Writer.{Writer}
-use Rattle.records.specs.Writers.{Puts}
+use Rattle.records.specs.Writers.{Puts, SameBuffer}
 use Rattle.refusals.specs.declared.Reason.{Reason}
 use Rattle.refusals.specs.declared.Refusal.{Refusal}
 use Rattle.refusals.specs.Refusals.{number_of, numbers, by_numbers}
+use Rattle.state.specs.declared.Fetched.{Fetched}
 use Rattle.state.specs.declared.Parser.{Parser}
 
 -- A line ends at its line feed or at the end of the source.
@@ -26,7 +27,8 @@ InLine p = ends_line p.kind ≡ false
 abbrev pub parser_of : (pos start last : ℕ) → TokenKind → (value : ℕ) → Parser
 parser_of e a l k v = record { pos = e; token_start = a; last_token_end = l; kind = k; value = v }
 
--- The kind of a token from the number of its kind, its value and its text. The end of the source is a line end.
+-- The kind of a token from the number of its kind, its value and its text. The end of the source is a line end. By the number and not by a row for
+-- each `Kind`: twelve of the 23 are marks, each by its own number.
 unfoldable pub kind_by : ℕ → ℕ → List ℕ → Kind
 kind_by k v w =
     if eqb k 97 then word w
@@ -132,14 +134,16 @@ pub record Comes (L : Level) (s : List ℕ) (p : Parser) {A : Type 0} (m : Reade
   pub reads : m (view L s p) ≡ done [] a (view L s q)
   pub kept : Kept L s p q
 
--- What the code's answers say of the reader that is meant. At a refusal the bytes of the writer's buffer are free. So the calls lend a
--- buffer of their own, or read a second time what was not refused.
+-- What the code's answers say of the reader that is meant. At a refusal the buffer's bytes and the writer's place are free. So the calls lend
+-- a buffer of their own, or read a second time what was not refused.
 abbrev pub ReadsAs : (L : Level) → List ℕ → Parser → Reader (On L) (Unit {0}) → Writer → Writer → Result Parser Refusal → Type 0
 ReadsAs L s p m old new (Ok q) = Gives L s p m old new q tt
 ReadsAs L s p m old new (Err r) = Denies L s p m r
 
+-- And the writer has the same buffer, refused or not.
 pub record Reads (L : Level) (s : List ℕ) (p : Parser) (m : Reader (On L) (Unit {0})) (old new : Writer) (r : Result Parser Refusal) : Type 0 where
   pub so : ReadsAs L s p m old new r
+  pub lent : SameBuffer old new
 
 -- A reader that gives a value, which the code has as a B; `seen` says which one it is.
 abbrev pub ReadsWithAs : (L : Level) → List ℕ → Parser → {A B : Type 0} → (B → A) → Reader (On L) A → Writer → Writer
@@ -150,6 +154,7 @@ ReadsWithAs L s p seen m old new (Err r) = Denies L s p m r
 pub record ReadsWith (L : Level) (s : List ℕ) (p : Parser) {A B : Type 0} (seen : B → A) (m : Reader (On L) A) (old new : Writer)
     (r : Result (Parser × B) Refusal) : Type 0 where
   pub so : ReadsWithAs L s p seen m old new r
+  pub lent : SameBuffer old new
 
 abbrev pub PassesAs : (L : Level) → List ℕ → Parser → Reader (On L) (Unit {0}) → Result Parser Refusal → Type 0
 PassesAs L s p m (Ok q) = Comes L s p m q tt
@@ -177,6 +182,12 @@ is_bad k = eqb (kind_number k) 30 || eqb (kind_number k) 31
 abbrev pub FaultOf : TokenKind → Option Reason → Type 0
 FaultOf k None = is_bad k ≡ false
 FaultOf k (Some r) = (number_of r ≡ kind_number k) × (is_bad k ≡ true)
+
+-- The first token from a place on, which is not refused; or the refusal of the one that stands there.
+abbrev pub TokenOf : List ℕ → ℕ → Result Fetched Refusal → Type 0
+TokenOf s place (Ok t) = Fetches s place t.start t.end t.kind t.value × (is_bad t.kind ≡ false)
+TokenOf s place (Err r) =
+    (a e : ℕ) × (k : TokenKind) × (v : ℕ) × Fetches s place a e k v × (is_bad k ≡ true) × (numbers r ≡ numbers_of (at (kind_number k) a e))
 
 -- Past the token ahead, which has to be of this kind, and is refused otherwise. Where the kind is a mark's, that is `expect`.
 pub record Expects (s : List ℕ) (p : Parser) (kind : TokenKind) (n : Reason) (r : Result Parser Refusal) : Type 0 where

@@ -7,7 +7,7 @@ ghost use Rattle.lexer.specs.declared.Kind.TheVariants as Kind;
 ghost use Rattle.refusals.specs.Refusals.{number_of, numbers};
 ghost use Rattle.rules.specs.Reader.{at, next as next_token, numbers_of};
 ghost use Rattle.rules.specs.Statements.{next_row};
-ghost use Rattle.state.specs.Views.{InLine, ends_line, text_of, line, whole, Passes, Fetches, FaultOf, Expects};
+ghost use Rattle.state.specs.Views.{InLine, ends_line, text_of, line, whole, Passes, Fetches, FaultOf, TokenOf, Expects};
 
 use lexer::Kind;
 use refusals::{Reason, Refusal, refused_at};
@@ -16,8 +16,9 @@ use source::Source;
 pub mod source;
 
 // The token ahead stands from `token_start` to before `pos`; the last one passed in its line ended at `last_token_end`.
-// `value` is the token's where it is a number; else no reader looks at it. It stands beside the kind, since two readers take it and all others
-// compare the kind alone. The fields' order is `Refusal`'s, which says why.
+// `value` is the token's where it is a number; else no reader looks at it. It stands beside the kind as in `lexer::Scanned`. The fields' order is
+// `Refusal`'s, which says why. The source is no part of it, and the readers are functions and no methods: the state goes by value from step to
+// step, and the source's slice would go along with each.
 #[derive(Clone, Copy)]
 pub struct Parser {
     pub pos: u32,
@@ -72,7 +73,7 @@ fn fetch(source: Source<'_>, place: u32) -> Fetched
     }
 }
 
-// Why a number is refused: 30 and 31.
+// Why a number is refused: 30 and 31. A question that most kinds answer with no, so no conversion.
 fn fault(kind: Kind) -> Option<Reason>
     ensures { FaultOf kind result }
 {
@@ -83,15 +84,24 @@ fn fault(kind: Kind) -> Option<Reason>
     }
 }
 
-// The next token of the line becomes the one ahead.
+// The first token from a place on, unless its number is refused.
+fn token(source: Source<'_>, place: u32) -> Result<Fetched, Refusal>
+    ensures { TokenOf source.entry.text.now place result }
+{
+    let t = fetch(source, place);
+    match fault(t.kind) {
+        Some(reason) => Err(refused_at(reason, t.start, t.end)),
+        None => Ok(t),
+    }
+}
+
+// The next token of the line becomes the one ahead. That the line goes on (`InLine`) is a clause, where `statements::Word` is a struct: a word is made
+// once and handed down; a state within its line would be made anew at each call, behind another test each, and taken apart here.
 pub fn next(source: Source<'_>, p: Parser) -> Result<Parser, Refusal>
     requires { InLine p }
     ensures { Passes line source.entry.text.now p next_token result }
 {
-    let t = fetch(source, p.pos);
-    if let Some(reason) = fault(t.kind) {
-        return Err(refused_at(reason, t.start, t.end));
-    }
+    let t = token(source, p.pos)?;
     Ok(Parser {
         pos: t.end,
         token_start: t.start,
@@ -102,15 +112,12 @@ pub fn next(source: Source<'_>, p: Parser) -> Result<Parser, Refusal>
 }
 
 // The first token of the next line becomes the one ahead; no token of that line is passed yet. It stays beside `next`: the two ask and say other
-// things of one fetch.
+// things of one token.
 pub fn next_line(source: Source<'_>, p: Parser) -> Result<Parser, Refusal>
     requires { p.kind ≡ Kind.NewLine }
     ensures { Passes whole source.entry.text.now p next_row result }
 {
-    let t = fetch(source, p.pos);
-    if let Some(reason) = fault(t.kind) {
-        return Err(refused_at(reason, t.start, t.end));
-    }
+    let t = token(source, p.pos)?;
     Ok(Parser {
         pos: t.end,
         token_start: t.start,
@@ -131,7 +138,7 @@ pub fn expect(source: Source<'_>, p: Parser, kind: Kind, reason: Reason) -> Resu
     Err(refuse_here(p, reason))
 }
 
-// A line ends at its line feed or at the end of the source.
+// A line ends at its line feed or at the end of the source. The kind is the lexer's, so this is no method of it.
 pub fn is_line_end(kind: Kind) -> bool
     ensures { result ≡ ends_line kind }
 {
@@ -140,13 +147,10 @@ pub fn is_line_end(kind: Kind) -> bool
 
 // The token's bytes.
 #[tactic(auto, unfolding(crate::specs::Views::text_of))]
-pub fn text<'a>(source: Source<'a>, p: Parser) -> &'a [u8]
-    ensures { result.now ≡ text_of source.entry.text.now p.token_start p.pos }
+pub fn text(source: &[u8], p: Parser) -> &[u8]
+    ensures { result.now ≡ text_of source.now p.token_start p.pos }
 {
     let from = p.token_start as usize;
     let to = p.pos as usize;
-    if from < to {
-        return lexer::source_at(source.text, from, to - from);
-    }
-    lexer::source_at(source.text, from, 0)
+    lexer::source_at(source, from, to.saturating_sub(from))
 }

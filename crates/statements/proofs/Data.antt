@@ -12,19 +12,21 @@ use Rattle.lexer.specs.Text.{is}
 use Rattle.rules.specs.Lexemes.{Lexeme}
 use Rattle.rules.specs.Records.{LD, field}
 use Rattle.rules.specs.Reader.{Cause, at as at_span, Answer, done, refused, Reader, Line, after, thence, ◌>>=◌, ◌>>◌, return, write, refuse, kind, passed, next, refuse_here, numbers_of}
-use Rattle.rules.specs.Statements.{largest, fits, State, in_line, line_end, literal_of, literals, some_data}
+use Rattle.rules.specs.Statements.{largest, fits, State, in_line, line_end, passing, literal_of, literals, some_data, data_of}
 use Rattle.lexer.proofs.Branches.{or_split}
 use Rattle.lexer.specs.Scanned.{number_of as kind_number}
 use Rattle.records.specs.declared.Writer.{Writer}
-use Rattle.records.specs.Writers.{Puts}
-use Rattle.records.proofs.Writers.{puts_nothing, puts_follow}
+use Rattle.records.specs.Writers.{Puts, SameBuffer}
+use Rattle.records.proofs.Writers.{puts_nothing, puts_follow, same_still, same_put, same_on}
 use Rattle.refusals.specs.Refusals.{numbers}
+use Rattle.std.specs.Prelude.{Ok, Err}
 use Rattle.statements.proofs.Lines.{inside_falls}
 use Rattle.state.specs.declared.Parser.{Parser}
 use Rattle.refusals.specs.declared.Refusal.{Refusal}
 use Rattle.state.specs.Views.{ends_line, kind_by, text_of, state_of, line_of, rows_of, line, whole, Comes, Denies}
-use Rattle.statements.specs.Statements.{between, is_some, front, Literal, NoLiteral, literals_from, Literals}
-use Rattle.state.proofs.Chain.{after_nil, Sofar, becomes, denied, refuses}
+use Rattle.statements.specs.Statements.{between, is_some, front, Literal, NoLiteral, ReadsLiteral, literals_from, ReadsLiterals}
+use Rattle.state.proofs.Chain.{after_nil, Sofar, comes, becomes, denied, refuses, lifts_comes, is_left}
+use Rattle.statements.proofs.Forms.{past_word}
 use Rattle.state.proofs.Flat.{by_kind}
 
 -- bytes in front
@@ -43,13 +45,13 @@ some_append [] b = refl
 some_append (x ∷ a) b = refl
 
 -- The test of a number's size.
-pub within : (width v : ℕ) {m : ℕ} → m ≡ largest width → v ≤ m → fits width v ≡ true
+pub within : (width v : ℕ) {m : ℕ} → m ≡ suc (largest width) → v < m → fits width v ≡ true
 unfolding fits
-within width v e h = le-leb v (largest width) (rw e at h)
+within width v e h = le-leb v (largest width) (omega (arith, e, h))
 
-pub beyond : (width v : ℕ) {m : ℕ} → m ≡ largest width → m < v → fits width v ≡ false
+pub beyond : (width v : ℕ) {m : ℕ} → m ≡ suc (largest width) → (v < m → ⊥) → fits width v ≡ false
 unfolding fits
-beyond width v e h = lt-leb v (largest width) (rw e at h)
+beyond width v e h = lt-leb v (largest width) (omega (arith, e, h))
 
 -- The literal ahead, by its byte.
 module _ (v : ℕ) (w : List ℕ) (width : ℕ) (others : Reader Line (List ℕ)) (l : Line) where
@@ -107,30 +109,33 @@ module _ (s : List ℕ) (p : Parser) (width : ℕ) where
   is_comma o e = record { ds = []; reads = λ others. ap (λ (k : ℕ). of k others) e ∙ comma_is p.value text width others (line_of s p); puts = puts_nothing o; is_some_lem = refl }
 
   module _ {o n : Writer} where
-    pub is_number : kind_number p.kind ≡ 48 → fits width p.value ≡ true → 1 ≤ width → Puts (take width (field p.value)) o n → Literal s p width o n true
-    is_number e f h k = record { ds = take width (field p.value); reads = λ others. ap (λ (k : ℕ). of k others) e ∙ number_is p.value text width others (line_of s p) f; puts = k; is_some_lem = some_number p.value width h }
+    pub is_number : kind_number p.kind ≡ 48 → fits width p.value ≡ true → 1 ≤ width → Puts (take width (field p.value)) o n → ReadsLiteral s p width o n (Ok true)
+    is_number e f h k = record {
+      so = record { ds = take width (field p.value); reads = λ others. ap (λ (k : ℕ). of k others) e ∙ number_is p.value text width others (line_of s p) f; puts = k; is_some_lem = some_number p.value width h };
+      lent = same_put k;
+    }
 
-    pub is_string : kind_number p.kind ≡ 39 → {t : List ℕ} → t ≡ text → Puts (between t) o n → Literal s p width o n (ltb 2 (length t))
-    is_string e f k = rw f (record { ds = between text; reads = λ others. ap (λ (k : ℕ). of k others) e ∙ string_is p.value text width others (line_of s p); puts = rw f at k; is_some_lem = some_between text })
+    pub is_string : kind_number p.kind ≡ 39 → {t : List ℕ} → t ≡ text → Puts (between t) o n → ReadsLiteral s p width o n (Ok (ltb 2 (length t)))
+    is_string e f k = record {
+      so = rw f (record { ds = between text; reads = λ others. ap (λ (k : ℕ). of k others) e ∙ string_is p.value text width others (line_of s p); puts = rw f at k; is_some_lem = some_between text });
+      lent = same_put k;
+    }
 
   -- refused on the token ahead
-  module _ {r : Refusal} where
-    pub is_wide : kind_number p.kind ≡ 48 → fits width p.value ≡ false → numbers r ≡ numbers_of (at_span 60 p.token_start p.pos) → NoLiteral s p width r
+  module _ {o : Writer} {r : Refusal} where
+    refused_by : (n : ℕ) → ((others : Reader Line (List ℕ)) → of (kind_number p.kind) others ≡ refuse_here n (line_of s p)) → numbers r ≡ numbers_of (at_span n p.token_start p.pos) → ReadsLiteral s p width o o (Err r)
     unfolding refuse_here
-    is_wide e f h = record { cause = at_span 60 p.token_start p.pos; reads = λ others. ap (λ (k : ℕ). of k others) e ∙ wide_is p.value text width others (line_of s p) f; by_numbers = h }
+    refused_by n e h = record { so = record { cause = at_span n p.token_start p.pos; reads = e; by_numbers = h }; lent = same_still o }
 
-    pub is_open_lem : kind_number p.kind ≡ 34 → numbers r ≡ numbers_of (at_span 26 p.token_start p.pos) → NoLiteral s p width r
-    unfolding refuse_here
-    is_open_lem e h = record { cause = at_span 26 p.token_start p.pos; reads = λ others. ap (λ (k : ℕ). of k others) e ∙ open_is p.value text width others (line_of s p); by_numbers = h }
+    pub is_wide : kind_number p.kind ≡ 48 → fits width p.value ≡ false → numbers r ≡ numbers_of (at_span 60 p.token_start p.pos) → ReadsLiteral s p width o o (Err r)
+    is_wide e f h = refused_by 60 (λ others. ap (λ (k : ℕ). of k others) e ∙ wide_is p.value text width others (line_of s p) f) h
+
+    pub is_open_lem : kind_number p.kind ≡ 34 → numbers r ≡ numbers_of (at_span 26 p.token_start p.pos) → ReadsLiteral s p width o o (Err r)
+    is_open_lem e h = refused_by 26 (λ others. ap (λ (k : ℕ). of k others) e ∙ open_is p.value text width others (line_of s p)) h
 
     pub is_other : eqb (kind_number p.kind) 44 ≡ false → eqb (kind_number p.kind) 48 ≡ false → eqb (kind_number p.kind) 39 ≡ false → eqb (kind_number p.kind) 34 ≡ false → ends_line p.kind ≡ false
-        → numbers r ≡ numbers_of (at_span 15 p.token_start p.pos) → NoLiteral s p width r
-    unfolding refuse_here
-    is_other a b c d e h = let f = or_split _ _ e in record {
-      cause = at_span 15 p.token_start p.pos;
-      reads = λ others. other_is p.value text width others (line_of s p) (kind_number p.kind) a b c d f.0 f.1;
-      by_numbers = h;
-    }
+        → numbers r ≡ numbers_of (at_span 15 p.token_start p.pos) → ReadsLiteral s p width o o (Err r)
+    is_other a b c d e h = let f = or_split _ _ e in refused_by 15 (λ others. other_is p.value text width others (line_of s p) (kind_number p.kind) a b c d f.0 f.1) h
 
   literals_is : literals_from s p width (line_of s p) ≡ of (kind_number p.kind) (literals fits (length (line_of s p).more) width)
   unfolding literals ◌>>=◌ kind thence
@@ -165,18 +170,24 @@ pub front_starts : (s : List ℕ) (p : Parser) (width : ℕ) (o : Writer) → Fr
 front_starts s p width o = record { bs = []; reads = sym (front_nil _); kept = refl; puts = puts_nothing o; is_some_lem = refl }
 
 module _ {s : List ℕ} {p : Parser} {width : ℕ} {o : Writer} {q : Parser} {some : Bool} {n : Writer} (so : Front s p width o q some n) where
-  pub front_ends : ends_line q.kind ≡ true → Literals s p width o n q some
+  pub front_ends : ends_line q.kind ≡ true → ReadsLiterals s p width o n (Ok (q, some))
   unfolding front thence return after
   front_ends e = record {
-    ds = so.bs;
-    comes = record { reads = so.reads ∙ ap (front so.bs) (literals_end s q width e) ∙ rw (append-nil so.bs); kept = so.kept };
-    puts = so.puts;
-    is_some_lem = so.is_some_lem;
+    so = record {
+      ds = so.bs;
+      comes = record { reads = so.reads ∙ ap (front so.bs) (literals_end s q width e) ∙ rw (append-nil so.bs); kept = so.kept };
+      puts = so.puts;
+      is_some_lem = so.is_some_lem;
+    };
+    lent = same_put so.puts;
   }
 
-  pub front_refused : {r : Refusal} → NoLiteral s q width r → Denies line s p (literals_from s p width) r
+  pub front_refused : {w : Writer} → SameBuffer n w → {r : Refusal} → NoLiteral s q width r → ReadsLiterals s p width o w (Err r)
   unfolding front thence
-  front_refused h = record { cause = h.cause; reads = so.reads ∙ ap (front so.bs) (literals_is s q width ∙ h.reads _); by_numbers = h.by_numbers }
+  front_refused l h = record {
+    so = record { cause = h.cause; reads = so.reads ∙ ap (front so.bs) (literals_is s q width ∙ h.reads _); by_numbers = h.by_numbers };
+    lent = same_on (same_put so.puts) l;
+  }
 
   module _ {w : Writer} {more : Bool} (h : Literal s q width n w more) where
     pub front_turns : ends_line q.kind ≡ false → {q₂ : Parser} → Comes line s q next q₂ tt → Front s p width o q₂ (some || more) w
@@ -188,9 +199,12 @@ module _ {s : List ℕ} {p : Parser} {width : ℕ} {o : Writer} {q : Parser} {so
       is_some_lem = rw (so.is_some_lem, h.is_some_lem) (sym (some_append so.bs h.ds));
     }
 
-    pub front_stops : {r : Refusal} → Denies line s q next r → Denies line s p (literals_from s p width) r
+    pub front_stops : {r : Refusal} → Denies line s q next r → ReadsLiterals s p width o w (Err r)
     unfolding front thence
-    front_stops k = record { cause = k.cause; reads = so.reads ∙ ap (front so.bs) (turn_denied s q width h k.reads); by_numbers = k.by_numbers }
+    front_stops k = record {
+      so = record { cause = k.cause; reads = so.reads ∙ ap (front so.bs) (turn_denied s q width h k.reads); by_numbers = k.by_numbers };
+      lent = same_on (same_put so.puts) (same_put h.puts);
+    }
 
 or_none : (b : Bool) → (b || false) ≡ b
 or_none true = refl
@@ -204,8 +218,17 @@ module _ {s : List ℕ} {p : Parser} {width : ℕ} {o : Writer} {q : Parser} {so
   pub comma_turns : {q₂ : Parser} → Comes line s q next q₂ tt → Front s p width o q₂ some n
   comma_turns {q₂} k = subst (λ (b : Bool). Front s p width o q₂ b n) (or_none some) (front_turns so (is_comma s q width n e) comma_inside k)
 
-  pub comma_stops : {r : Refusal} → Denies line s q next r → Denies line s p (literals_from s p width) r
+  pub comma_stops : {r : Refusal} → Denies line s q next r → ReadsLiterals s p width o n (Err r)
   comma_stops k = front_stops so (is_comma s q width n e) k
+
+-- Data, whose word was x: past it, and past its literals.
+module _ {s : List ℕ} {p q : Parser} (x : Lexeme) (width : ℕ) (o : Writer) (h : Comes line s p next q tt) where
+  pub data_begun : Sofar whole s p (passing (data_of fits x width)) o q (in_line (literals_from s q width) >>= some_data x) o
+  unfolding data_of
+  data_begun = comes _ _ (past_word _ o h) (lifts_comes is_left)
+
+  pub data_read : {q₂ : Parser} {ds : List ℕ} → Comes line s q (literals_from s q width) q₂ ds → Sofar whole s p (passing (data_of fits x width)) o q₂ (some_data x ds) o
+  data_read k = comes _ _ data_begun (lifts_comes k)
 
 -- The record of data, whose word was x; 23 where there are none.
 module _ {s : List ℕ} {p q : Parser} {m : Reader State (Unit {0})} {o n : Writer} (x : Lexeme) (ds : List ℕ) (so : Sofar whole s p m o q (some_data x ds) n) where

@@ -1,18 +1,19 @@
 -- The forms of a statement: what its first word says, and how each is read behind that word.
 -- Assumes nothing.
 use Rattle.std.specs.Prelude.{if◌then◌else◌}
-use Prim.Native.Nat.{ℕ, suc}
+use Prim.Native.Nat.{ℕ, suc, ◌-◌}
 use mathlib.Core.Path.{◌≡◌, refl, sym, ap, subst, ◌∙◌}
 use mathlib.Core.List.{List, map}
 use mathlib.Core.Bool.{Bool, true, false, ◌||◌}
 use mathlib.Core.Option.{Option, none, some}
+use native.Mathlib.Omega.{arith}
 use lib.Dec.{eqb, ltb}
 use Rattle.lexer.specs.Text.{maybe, bytes, lower, same}
 use Rattle.names.specs.Names.{directives, place_from, named, operation_named, found_of, directive_from, directive_of}
-use Rattle.std.specs.Prelude.{Option as Maybe, None, Some}
+use Rattle.std.specs.Prelude.{Option as Maybe, None, Some, Result, Ok, IsErrAnd}
 use Rattle.lexer.specs.Scanned.{number_of as kind_number}
 use Rattle.records.specs.declared.Writer.{Writer}
-use Rattle.records.specs.Writers.{Puts}
+use Rattle.records.specs.Writers.{Puts, SameBuffer}
 use Rattle.refusals.specs.Refusals.{numbers}
 use Rattle.names.specs.declared.Directive.{Directive}
 use Rattle.names.specs.declared.Directive.TheVariants as directive
@@ -21,16 +22,16 @@ use Rattle.names.proofs.Keys.{Bytes}
 use Rattle.names.proofs.Names.{directs_by}
 use Rattle.names.proofs.Rows.{operates_by, Directs, directive_apart}
 use Rattle.rules.specs.Lexemes.{Kind, word, Lexeme, name_in, operation_in, text_of as word_of}
-use Rattle.rules.specs.Records.{LL, LI, LT, encode}
+use Rattle.rules.specs.Records.{Record, LL, LI, LT, encode}
 use Rattle.rules.specs.Reader.{at as at_span, Reader, thence, ◌>>=◌, ◌>>◌, return, write, refuse, ahead, kind, passed, next, refuse_here, numbers_of}
 use Rattle.rules.specs.Expressions.{expression}
 use Rattle.rules.specs.Operands.{operands, is_word}
 use Rattle.rules.specs.Statements.{fitting, fits, State, over, in_line, line_end, skip_lines, passing, label, rep, repne, instruction, constant, data_of, line, content, times}
 use Rattle.state.specs.declared.Parser.{Parser}
 use Rattle.refusals.specs.declared.Refusal.{Refusal}
-use Rattle.state.specs.Views.{ends_line, kind_by, text_of, here_of, state_of, whole, Gives, Denies, Comes, line as inside}
-use Rattle.state.proofs.Chain.{after_nil, Sofar, starts, becomes, comes, called, called_denied, ends, first_denied, lifts_comes, lifts_denied, denied, refuses, refuses_here, writes, returns, is_kind}
-use Rattle.statements.proofs.Lines.{end_is}
+use Rattle.state.specs.Views.{ends_line, kind_by, text_of, here_of, state_of, whole, Gives, Denies, Comes, Reads, line as inside}
+use Rattle.state.proofs.Chain.{exits, reads_refused, reads_refused_on, after_nil, Sofar, starts, becomes, comes, called, called_denied, ends, first_denied, lifts_comes, lifts_denied, denied, refuses, refuses_here, writes, returns, is_kind, is_passed, reads_done}
+use Rattle.statements.proofs.Lines.{stops_on, end_is}
 use Rattle.state.proofs.Flat.{by_kind, mark_is, plain}
 
 -- past the word that a statement begins with
@@ -42,6 +43,19 @@ module _ {s : List ℕ} {p : Parser} (m : Reader State (Unit {0})) where
   pub word_denied : {r : Refusal} → Denies inside s p next r → Denies whole s p (passing m) r
   unfolding passing ◌>>◌
   word_denied h = first_denied (λ _. m) (lifts_denied h)
+
+  pub word_stops : {r : Result Parser Refusal} {x : Refusal} → IsErrAnd r (λ y. y ≡ x) → {o w : Writer} → SameBuffer o w → Denies inside s p next x → Reads whole s p (passing m) o w r
+  word_stops e l h = rw (exits e) (reads_refused_on l (word_denied h))
+
+-- the end of a statement's line, and its record then
+module _ {s : List ℕ} {p q : Parser} {m : Reader State (Unit {0})} {o n : Writer} (f : ℕ → Record) (so : Sofar whole s p m o q (in_line passed >>= λ t. line_end >> write (f t)) n) where
+  pub recorded : {q₂ : Parser} {w : Writer} → Comes whole s q line_end q₂ tt → Puts (encode (f q.last_token_end)) n w → Reads whole s p m o w (Ok q₂)
+  unfolding ◌>>◌
+  recorded h k = reads_done (ends (comes _ _ (comes _ _ so (lifts_comes is_passed)) h) (writes (f q.last_token_end) k))
+
+  pub line_goes_on : {r : Result Parser Refusal} {x : Refusal} → IsErrAnd r (λ y. y ≡ x) → {w : Writer} → SameBuffer n w → Denies whole s q line_end x → Reads whole s p m o w r
+  unfolding ◌>>◌
+  line_goes_on e l h = stops_on e _ _ (comes _ _ so (lifts_comes is_passed)) l h
 
 -- an instruction, whose word was x: `rep` and `repne`, and the others
 abbrev repeated : Lexeme → ℕ → Reader State (Unit {0})
@@ -185,12 +199,19 @@ module _ (table s : List ℕ) (p : Parser) where
     begun : Sofar whole s p (times (fitting table) n) o p (passing (in_line expression >> (skip_lines >> content (fitting table) (times (fitting table) k) (here_of s p)))) o
     begun = becomes (starts whole s p (times (fitting table) n) o) times_is
 
-    pub times_past : {q : Parser} → Comes inside s p next q tt → Sofar whole s p (times (fitting table) n) o q (in_line expression >> (skip_lines >> content (fitting table) (times (fitting table) k) (here_of s p))) o
+    past : {q : Parser} → Comes inside s p next q tt → Sofar whole s p (times (fitting table) n) o q (in_line expression >> (skip_lines >> content (fitting table) (times (fitting table) k) (here_of s p))) o
     unfolding passing ◌>>◌
-    times_past h = comes (in_line next) (λ _. in_line expression >> (skip_lines >> content (fitting table) (times (fitting table) k) (here_of s p))) begun (lifts_comes h)
+    past h = comes (in_line next) (λ _. in_line expression >> (skip_lines >> content (fitting table) (times (fitting table) k) (here_of s p))) begun (lifts_comes h)
 
-    pub times_denied : {r : Refusal} → Denies inside s p next r → Denies whole s p (times (fitting table) n) r
-    times_denied h = denied begun (word_denied _ h)
+    first_stops : {r : Result Parser Refusal} {x : Refusal} → IsErrAnd r (λ y. y ≡ x) → Denies inside s p next x → Reads whole s p (times (fitting table) n) o o r
+    first_stops e h = rw (exits e) (reads_refused (denied begun (word_denied _ h)))
+
+  module _ {n : ℕ} (h : n ≡ 0 → ⊥) (o : Writer) where
+    pub times_past : {q : Parser} → Comes inside s p next q tt → Sofar whole s p (times (fitting table) n) o q (in_line expression >> (skip_lines >> content (fitting table) (times (fitting table) (n - 1)) (here_of s p))) o
+    times_past = past {n = n} {k = n - 1} (omega (arith, h)) o
+
+    pub times_stops : {r : Result Parser Refusal} {x : Refusal} → IsErrAnd r (λ y. y ≡ x) → Denies inside s p next x → Reads whole s p (times (fitting table) n) o o r
+    times_stops = first_stops {n = n} {k = n - 1} (omega (arith, h)) o
 
 -- the content of the `times` that was x
 module _ (table : List ℕ) (t : Reader State (Unit {0})) (x : Lexeme) {s : List ℕ} {p : Parser} where

@@ -15,12 +15,14 @@ use Rattle.rules.proofs.Progress.{size, Lower, statement_left}
 use Rattle.std.specs.Prelude.{Ok, Err}
 use Rattle.lexer.specs.Scanned.{number_of as kind_number}
 use Rattle.records.specs.declared.Writer.{Writer}
-use Rattle.records.specs.Writers.{Puts}
+use Rattle.records.specs.Writers.{Puts, SameBuffer}
+use Rattle.records.proofs.Writers.{same_still, same_put, same_on}
 use Rattle.state.specs.declared.Parser.{Parser}
 use Rattle.refusals.specs.declared.Refusal.{Refusal}
 use Rattle.state.specs.Views.{ends_line, behind, state_of, whole, Gives, Denies, Comes}
-use Rattle.statements.specs.Statements.{NoneThere, ReadsStatements}
-use Rattle.state.proofs.Chain.{after_nil, Sofar, starts, becomes, comes, called, called_denied, ends, first_denied, denied, lands, writes, returns, reads_done, reads_refused}
+use Rattle.statements.specs.declared.StatementRead.TheVariants.{Read, NoneLeft}
+use Rattle.statements.specs.Statements.{NoneThere, ReadsStatement, ReadsStatements}
+use Rattle.state.proofs.Chain.{after_nil, Sofar, starts, becomes, comes, called, called_denied, ends, first_denied, denied, lands, writes, returns, lent_sofar, reads_done, reads_refused_on}
 use Rattle.statements.proofs.Lines.{end_is, tokens_left, view_below}
 
 module _ (table : List ℕ) {s : List ℕ} {p q : Parser} (h : Comes whole s p skip_lines q tt) where
@@ -36,26 +38,30 @@ module _ (table : List ℕ) {s : List ℕ} {p q : Parser} (h : Comes whole s p s
   unfolding statement ◌>>◌
   statement_by_lem e o = becomes (comes skip_lines (λ _. begun (fitting table)) (starts whole s p (statement (fitting table)) o) h) (begun_by e)
 
-  pub none_there : ends_line q.kind ≡ true → (o : Writer) → NoneThere table s p o o q
+  pub none_there : ends_line q.kind ≡ true → (o : Writer) → ReadsStatement table s p o o (Ok (NoneLeft q))
   unfolding statement ◌>>◌ ◌>>=◌ thence return
-  none_there e o = record { comes = record { reads = ap (λ (o : Answer State (Unit {0})). thence o (λ _. begun (fitting table))) h.reads ∙ after_nil _ ∙ begun_by e; kept = tt }; same = refl }
+  none_there e o = record {
+    so = record { comes = record { reads = ap (λ (o : Answer State (Unit {0})). thence o (λ _. begun (fitting table))) h.reads ∙ after_nil _ ∙ begun_by e; kept = tt }; same = refl };
+    lent = same_still o;
+  }
 
   module _ (e : ends_line q.kind ≡ false) {o n : Writer} (k : Puts (encode (ST q.token_start)) o n) where
     placed : Sofar whole s q (write (ST q.token_start) >> line (fitting table) (times (fitting table) 16)) o q (line (fitting table) (times (fitting table) 16)) n
     unfolding ◌>>◌
     placed = called _ _ (starts whole s q (write (ST q.token_start) >> line (fitting table) (times (fitting table) 16)) o) (writes (ST q.token_start) k)
 
-    pub statement_reads : {w : Writer} {q₂ : Parser} → Gives whole s q (line (fitting table) (times (fitting table) 16)) n w q₂ tt → Gives whole s p (statement (fitting table)) o w q₂ true
-    unfolding ◌>>◌
-    statement_reads g = lands (called _ _ (statement_by_lem e o) (ends placed g)) (returns true)
+    module _ {w : Writer} (l : SameBuffer n w) where
+      pub statement_reads : {q₂ : Parser} → Gives whole s q (line (fitting table) (times (fitting table) 16)) n w q₂ tt → ReadsStatement table s p o w (Ok (Read q₂))
+      unfolding ◌>>◌
+      statement_reads g = record { so = lands (called _ _ (statement_by_lem e o) (ends placed g)) (returns true); lent = same_on (same_put k) l }
 
-    pub statement_denied : {r : Refusal} → Denies whole s q (line (fitting table) (times (fitting table) 16)) r → Denies whole s p (statement (fitting table)) r
-    unfolding ◌>>◌
-    statement_denied g = called_denied _ _ (statement_by_lem e o) (denied placed g)
+      pub statement_denied : {r : Refusal} → Denies whole s q (line (fitting table) (times (fitting table) 16)) r → ReadsStatement table s p o w (Err r)
+      unfolding ◌>>◌
+      statement_denied g = record { so = called_denied _ _ (statement_by_lem e o) (denied placed g); lent = same_on (same_put k) l }
 
-pub none_denied : (table : List ℕ) {s : List ℕ} {p : Parser} {r : Refusal} → Denies whole s p skip_lines r → Denies whole s p (statement (fitting table)) r
+pub none_denied : (table : List ℕ) {s : List ℕ} {p : Parser} (o : Writer) {r : Refusal} → Denies whole s p skip_lines r → ReadsStatement table s p o o (Err r)
 unfolding statement ◌>>◌
-none_denied table {s} {p} h = first_denied (λ _. begun (fitting table)) h
+none_denied table o h = record { so = first_denied (λ _. begun (fitting table)) h; lent = same_still o }
 
 -- a statement that is read leaves fewer tokens
 module _ (table : List ℕ) {s : List ℕ} {q q₂ : Parser} {o n : Writer} (g : Gives whole s q (statement (fitting table)) o n q₂ true) where
@@ -99,10 +105,10 @@ module _ (table : List ℕ) {s : List ℕ} {p : Parser} {o : Writer} {q : Parser
         rw g.same (reads_done (lands (comes (statement (fitting table)) (λ more. if more then (statements (fitting table) k) else (return tt)) so g.comes) (returns tt)));
   }
 
-  pub run_denied : {w₂ : Writer} {c : Refusal} → Denies whole s q (statement (fitting table)) c → ReadsStatements table s p o w₂ (Err c)
+  pub run_denied : {w₂ : Writer} → SameBuffer w w₂ → {c : Refusal} → Denies whole s q (statement (fitting table)) c → ReadsStatements table s p o w₂ (Err c)
   unfolding statements
-  run_denied g = record {
+  run_denied l g = record {
     so = λ n h.
         let (k, f, so) = r.so n (few h) in
-        reads_refused (called_denied (statement (fitting table)) (λ more. if more then (statements (fitting table) k) else (return tt)) so g);
+        reads_refused_on (same_on (lent_sofar so) l) (called_denied (statement (fitting table)) (λ more. if more then (statements (fitting table) k) else (return tt)) so g);
   }

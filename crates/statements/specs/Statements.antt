@@ -5,7 +5,7 @@ use Rattle.rules.specs.Reader.{Cause, nowhere, Answer, done, refused, Reader, Li
 use Rattle.rules.specs.Statements.{fitting, fits, Row, State, rows, enter, literal_of, literals, statement, statements}
 use Rattle.lexer.specs.Scanned.{number_of as kind_number}
 use Rattle.records.specs.declared.Writer.{Writer}
-use Rattle.records.specs.Writers.{Puts}
+use Rattle.records.specs.Writers.{Puts, SameBuffer}
 use Rattle.refusals.specs.declared.Refusal.{Refusal}
 use Rattle.refusals.specs.Refusals.{numbers}
 use Rattle.state.specs.declared.Parser.{Parser}
@@ -73,6 +73,7 @@ ReadsLiteralAs s p width old new (Err r) = NoLiteral s p width r
 
 pub record ReadsLiteral (s : List ℕ) (p : Parser) (width : ℕ) (old new : Writer) (r : Result Bool Refusal) : Type 0 where
   pub so : ReadsLiteralAs s p width old new r
+  pub lent : SameBuffer old new
 
 -- The literals of the line: at most one for each token that is left.
 abbrev pub literals_from : List ℕ → Parser → ℕ → Reader Line (List ℕ)
@@ -90,6 +91,7 @@ ReadsLiteralsAs s p width old new (Err r) = Denies line s p (literals_from s p w
 
 pub record ReadsLiterals (s : List ℕ) (p : Parser) (width : ℕ) (old new : Writer) (r : Result (Parser × Bool) Refusal) : Type 0 where
   pub so : ReadsLiteralsAs s p width old new r
+  pub lent : SameBuffer old new
 
 module _ (table s : List ℕ) where
   -- None is left: nothing is written.
@@ -104,6 +106,7 @@ module _ (table s : List ℕ) where
 
   pub record ReadsStatement (p : Parser) (old new : Writer) (r : Result StatementRead Refusal) : Type 0 where
     pub so : ReadsStatementAs p old new r
+    pub lent : SameBuffer old new
 
   -- All statements, of which there are at most as many as tokens.
   pub record ReadsStatements (p : Parser) (old new : Writer) (r : Result Parser Refusal) : Type 0 where

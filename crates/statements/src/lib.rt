@@ -1,4 +1,4 @@
-// Statements: labels, instructions, constants, data and `times`.
+// Statements: labels, instructions, constants, data and `times`. The table of operations is a parameter, since the contracts hold for each good one.
 #![tactic(auto)]
 
 ghost use Rattle.std.specs.Prelude.{◌≡◌, ◌||◌, ℕ, List, eqb};
@@ -8,7 +8,7 @@ ghost use Rattle.rules.specs.Statements as rules;
 ghost use Rattle.state.specs.Views.{InLine, parser_of, here_of, whole, Passes, Reads};
 ghost use Rattle.statements.specs.Statements as answers;
 
-use expressions::{DEEPEST, expression};
+use expressions::outermost;
 use lexer::Kind;
 use names::{Directive, Table};
 use operands::operands;
@@ -17,8 +17,12 @@ use records::marks::Mark;
 use refusals::{Reason, Refusal, refused_at};
 use state::source::Source;
 use state::{Parser, is_line_end, next, next_line, refuse_here, text};
+use word::Word;
 
-// A statement was read, or none is left before the end of the source. Both have the state behind it, so this is no Option.
+mod word;
+
+// A statement was read, or none is left before the end of the source. `statement` promises the state behind the last one too (`NoneThere`), and
+// `statements` answers it: so this is no Option.
 #[derive(Clone, Copy)]
 pub enum StatementRead {
     Read(Parser),
@@ -28,8 +32,8 @@ pub enum StatementRead {
 // How many bytes a number of `db` or `dw` has.
 #[derive(Clone, Copy)]
 enum Width {
-    Byte = 1,
-    Word = 2,
+    Byte,
+    Word,
 }
 
 // The line has to end here; to the next one.
@@ -55,16 +59,15 @@ fn skip_lines(source: Source<'_>, p: Parser) -> Result<Parser, Refusal>
 }
 
 // A label and its colon, if there is one, which is no part of it.
-fn label(source: Source<'_>, out: &mut Writer<'_>, p: Parser) -> Result<Parser, Refusal>
-    requires { p.kind ≡ Kind.Identifier }
-    ensures { Reads whole source.entry.text.now p (rules.passing (rules.in_line (rules.label (here_of source.entry.text.now p))))
-        out.old out.new result }
+fn label(source: Source<'_>, out: &mut Writer<'_>, word: Word) -> Result<Parser, Refusal>
+    ensures { Reads whole source.entry.text.now word.parser
+        (rules.passing (rules.in_line (rules.label (here_of source.entry.text.now word.parser)))) out.old out.new result }
 {
-    let mut q = next(source, p)?;
+    let mut q = next(source, word.parser)?;
     if q.kind == Kind::Colon {
         q = next(source, q)?;
     }
-    out.put_record(Mark::LL, [p.token_start, p.pos]);
+    out.put_record(Mark::LL, [word.parser.token_start, word.parser.pos]);
     Ok(q)
 }
 
@@ -83,18 +86,17 @@ fn is_repeat(operation: u8) -> bool
 fn instruction(
     source: Source<'_>,
     out: &mut Writer<'_>,
-    p: Parser,
+    word: Word,
     operation: u8,
 ) -> Result<Parser, Refusal>
-    requires { p.kind ≡ Kind.Identifier }
-    ensures { Reads whole source.entry.text.now p (rules.passing (rules.instruction (here_of source.entry.text.now p) operation))
-        out.old out.new result }
+    ensures { Reads whole source.entry.text.now word.parser
+        (rules.passing (rules.instruction (here_of source.entry.text.now word.parser) operation)) out.old out.new result }
 {
-    let from = p.token_start;
-    let q = next(source, p)?;
+    let from = word.parser.token_start;
+    let q = next(source, word.parser)?;
     if is_repeat(operation) {
         let to = q.last_token_end;
-        out.put_record(Mark::LI, [from, to, operation as u32, 0, to, to]);
+        out.put_record(Mark::LI, [from, to, u32::from(operation), 0, to, to]);
         return Ok(q);
     }
     let (end, o) = operands(source, out, q)?;
@@ -104,7 +106,7 @@ fn instruction(
         [
             from,
             end.last_token_end,
-            operation as u32,
+            u32::from(operation),
             o.count,
             o.from,
             o.to,
@@ -114,24 +116,23 @@ fn instruction(
 }
 
 // `equ` and its expression.
-fn constant(source: Source<'_>, out: &mut Writer<'_>, p: Parser) -> Result<Parser, Refusal>
-    requires { p.kind ≡ Kind.Identifier }
-    ensures { Reads whole source.entry.text.now p (rules.passing (rules.constant (here_of source.entry.text.now p)))
-        out.old out.new result }
+fn constant(source: Source<'_>, out: &mut Writer<'_>, word: Word) -> Result<Parser, Refusal>
+    ensures { Reads whole source.entry.text.now word.parser
+        (rules.passing (rules.constant (here_of source.entry.text.now word.parser))) out.old out.new result }
 {
-    let q = next(source, p)?;
-    let end = expression(source, out, q, 0, DEEPEST)?;
+    let q = next(source, word.parser)?;
+    let end = outermost(source, out, q)?;
     let below = line_end(source, end)?;
-    out.put_record(Mark::LC, [p.token_start, end.last_token_end]);
+    out.put_record(Mark::LC, [word.parser.token_start, end.last_token_end]);
     Ok(below)
 }
 
-// Bytes, one behind the other.
+// Bytes, one behind the other. Its twin is `Text::put_all`: one `for` each, over a writer that measures on and over one that cuts off.
 fn put_bytes(out: &mut Writer<'_>, bytes: &[u8])
     ensures { Puts bytes.now out.old out.new }
 {
     for b in bytes {
-        out.put(*b);
+        out.put([*b]);
     }
 }
 
@@ -144,7 +145,8 @@ fn put_characters(out: &mut Writer<'_>, word: &[u8])
     }
 }
 
-// The number ahead, in one byte or two, low first; 60 where it has more. Its bytes are at least one.
+// The number ahead, in one byte or two, low first; 60 where it has more, said in both arms, since a function over the two types would be
+// longer. It answers for `literal`: there is at least one byte.
 fn number(out: &mut Writer<'_>, p: Parser, width: Width) -> Result<bool, Refusal>
     requires { p.kind ≡ Kind.Number }
     ensures { (s : List ℕ) → answers.ReadsLiteral s p (answers.bytes_in width) out.old out.new result }
@@ -152,16 +154,12 @@ fn number(out: &mut Writer<'_>, p: Parser, width: Width) -> Result<bool, Refusal
     let v = p.value;
     match width {
         Width::Byte => {
-            if 255 < v {
-                return Err(refuse_here(p, Reason::NumberTooWide));
-            }
-            out.put((v % 256) as u8);
+            let byte = u8::try_from(v).map_err(|_| refuse_here(p, Reason::NumberTooWide))?;
+            out.put([byte]);
         }
         Width::Word => {
-            if 65535 < v {
-                return Err(refuse_here(p, Reason::NumberTooWide));
-            }
-            out.put_two((v % 256) as u8, (v / 256 % 256) as u8);
+            let word = u16::try_from(v).map_err(|_| refuse_here(p, Reason::NumberTooWide))?;
+            out.put(word.to_le_bytes());
         }
     }
     Ok(true)
@@ -181,7 +179,7 @@ fn literal(
         Kind::Comma => Ok(false),
         Kind::Number => number(out, p, width),
         Kind::ClosedString => {
-            let word = text(source, p);
+            let word = text(source.text, p);
             put_characters(out, word);
             Ok(2 < word.len())
         }
@@ -216,19 +214,18 @@ fn literals(
 fn data_of(
     source: Source<'_>,
     out: &mut Writer<'_>,
-    p: Parser,
+    word: Word,
     width: Width,
 ) -> Result<Parser, Refusal>
-    requires { p.kind ≡ Kind.Identifier }
-    ensures { Reads whole source.entry.text.now p
-        (rules.passing (rules.data_of rules.fits (here_of source.entry.text.now p) (answers.bytes_in width))) out.old out.new result }
+    ensures { Reads whole source.entry.text.now word.parser
+        (rules.passing (rules.data_of rules.fits (here_of source.entry.text.now word.parser) (answers.bytes_in width))) out.old out.new result }
 {
-    let from = p.token_start;
+    let from = word.parser.token_start;
     let start = out.begin_data();
-    let q = next(source, p)?;
+    let q = next(source, word.parser)?;
     let (end, some) = literals(source, out, q, width)?;
     if !some {
-        return Err(refused_at(Reason::DataDefinitionWithoutData, from, p.pos));
+        return Err(refused_at(Reason::DataDefinitionWithoutData, from, word.parser.pos));
     }
     let below = line_end(source, end)?;
     out.end_data(start, from, end.last_token_end);
@@ -236,7 +233,8 @@ fn data_of(
 }
 
 // A statement whose first token is ahead; `left` more `times` may begin. The state is handed over number by number: a struct would
-// be written by its fields and copied as a whole, which waits for the writes, and made a whole read 8 to 9 % slower.
+// be written by its fields and copied as a whole, which waits for the writes, and made a whole read 8 to 9 % slower. So `line` and
+// `statement_from` are called with five numbers, at two places each.
 #[cycle(statements)]
 fn line(
     source: Source<'_>,
@@ -262,16 +260,17 @@ fn line(
     if p.kind != Kind::Identifier {
         return Err(refuse_here(p, Reason::InstructionExpected));
     }
-    let word = text(source, p);
-    let key = names::word_key(word);
+    let word = Word { parser: p };
+    let name = text(source.text, p);
+    let key = names::word_key(name);
     match names::directive_by(key) {
-        Some(Directive::Equ) => constant(source, out, p),
-        Some(Directive::Db) => data_of(source, out, p, Width::Byte),
-        Some(Directive::Dw) => data_of(source, out, p, Width::Word),
-        Some(Directive::Times) => times(source, table, out, p, left),
+        Some(Directive::Equ) => constant(source, out, word),
+        Some(Directive::Db) => data_of(source, out, word, Width::Byte),
+        Some(Directive::Dw) => data_of(source, out, word, Width::Word),
+        Some(Directive::Times) => times(source, table, out, word, left),
         None => match table.operation_by(key) {
-            Some(operation) => instruction(source, out, p, operation),
-            None => label(source, out, p),
+            Some(operation) => instruction(source, out, word, operation),
+            None => label(source, out, word),
         },
     }
 }
@@ -282,36 +281,35 @@ fn times(
     source: Source<'_>,
     table: Table<'_>,
     out: &mut Writer<'_>,
-    p: Parser,
+    word: Word,
     left: u32,
 ) -> Result<Parser, Refusal>
-    requires { p.kind ≡ Kind.Identifier }
-    ensures { Reads whole source.entry.text.now p (rules.times (rules.fitting table.entry.rows.now) left) out.old out.new result }
+    ensures { Reads whole source.entry.text.now word.parser (rules.times (rules.fitting table.entry.rows.now) left) out.old out.new result }
 {
     if left == 0 {
-        return Err(refuse_here(p, Reason::TimesTooDeep));
+        return Err(refuse_here(word.parser, Reason::TimesTooDeep));
     }
-    let q = next(source, p)?;
-    let end = expression(source, out, q, 0, DEEPEST)?;
+    let q = next(source, word.parser)?;
+    let end = outermost(source, out, q)?;
     let below = skip_lines(source, end)?;
-    content(source, table, out, below, p, left - 1)
+    content(source, table, out, below, word, left - 1)
 }
 
-// The content of a `times` whose word was ahead in `word`.
+// The content of a `times` whose word was `word`.
 #[cycle(statements)]
 fn content(
     source: Source<'_>,
     table: Table<'_>,
     out: &mut Writer<'_>,
     p: Parser,
-    word: Parser,
+    word: Word,
     left: u32,
 ) -> Result<Parser, Refusal>
     ensures { Reads whole source.entry.text.now p (rules.content (rules.fitting table.entry.rows.now)
-        (rules.times (rules.fitting table.entry.rows.now) left) (here_of source.entry.text.now word)) out.old out.new result }
+        (rules.times (rules.fitting table.entry.rows.now) left) (here_of source.entry.text.now word.parser)) out.old out.new result }
 {
     if is_line_end(p.kind) {
-        return Err(refuse_here(word, Reason::TimesWithoutContent));
+        return Err(refuse_here(word.parser, Reason::TimesWithoutContent));
     }
     let q = line(
         source,

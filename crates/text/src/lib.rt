@@ -1,7 +1,8 @@
-// Text in a lent buffer, one run behind the other; it is cut off where the buffer ends.
+// Text in a lent buffer, one run behind the other; it is cut off where the buffer ends. No `Display`: what is written is proved byte by byte,
+// and no `Display` says its bytes.
 #![tactic(auto)]
 
-ghost use Rattle.std.specs.Prelude.{[], ◌∷◌};
+ghost use Rattle.std.specs.Prelude.{◌≡◌, [], ◌∷◌};
 ghost use Rattle.text.specs.Text.{decimal, signed, numbers, Put};
 
 // A buffer, and the place behind what was put.
@@ -12,6 +13,14 @@ pub struct Text<'a> {
 }
 
 impl<'a> Text<'a> {
+    // A text at the head of a buffer.
+    pub fn new(out: &'a mut [u8]) -> Text<'a>
+        ensures buffer { result.out ≡ out.entry }
+        ensures place { result.at ≡ 0 }
+    {
+        Text { out, at: 0 }
+    }
+
     pub fn put(&mut self, b: u8)
         ensures { Put (b ∷ []) self.old self.new }
     {
@@ -21,6 +30,7 @@ impl<'a> Text<'a> {
         }
     }
 
+    // `put_bytes` of `statements` is alike and no duplicate: this writer cuts off, that one goes on and measures.
     pub fn put_all(&mut self, text: &[u8])
         ensures { Put text.now self.old self.new }
     {
@@ -32,6 +42,7 @@ impl<'a> Text<'a> {
     fn put_decimal(&mut self, n: u64)
         ensures { Put (decimal n) self.old self.new }
     {
+        // no heap: an array, and how many digits it has
         let mut digits = [0u8; 20];
         let k = io::decimal(n, &mut digits);
         self.put_all(&digits[..k]);

@@ -8,9 +8,6 @@ use Rattle.checker.proofs.well_formed.Goals as goal
 pub loop-at-init : goal.loop-at-init
 loop-at-init c = stands_first _ _
 
-pub check_at-requires : goal.check_at-requires
-check_at-requires c = (c.loop-at-test.true, omega (arith, c.loop-at.invariant.low))
-
 pub returns-in_default : goal.returns-in_default
 returns-in_default c = stands_bad c.loop-at.invariant c.loop-at-test.true (sym c.check_at.ensures ∙ ap passed_of c.in_default.is)
 

@@ -1,10 +1,9 @@
 -- The run, the letter behind it and its last byte settle the suffix, and with it the base, as in the definition.
 use mathlib.Core.Path.{◌≡◌, sym, ap, ◌∙◌}
-use mathlib.Core.Bool.{true, false, ◌||◌}
+use mathlib.Core.Bool.{true}
 use native.Mathlib.Omega.{arith}
 use mathlib.Core.List.{List}
 use Prim.Native.Nat.{ℕ, ◌+◌, ◌-◌, ◌≤◌, ◌<◌}
-use lib.Dec.{eqb}
 use lib.ListN.{length, get_or, drop}
 use Rattle.lexer.specs.Text.{is_digit, is_hex_digit, run}
 use Rattle.lexer.specs.Runs.{up_to_one, are_hex_digits}
@@ -23,28 +22,23 @@ hex s at {end} p e =
     let (i, j) = inside s at p e in
     (suffix_hex s at _ p.0 p.1 e end (omega arith), suffix_hex s at _ p.0 p.1 e (end - 1) (omega arith))
 
--- neither o nor h stands behind it where its last byte is read
-bare : (s : List ℕ) (end : ℕ) {after : ℕ} → after ≡ get_or s end 0 → (eqb after 111 || eqb after 79) ≡ false → (eqb after 104 || eqb after 72) ≡ false
-    → ((eqb (get_or s end 0) 111 || eqb (get_or s end 0) 79) ≡ false) × ((eqb (get_or s end 0) 104 || eqb (get_or s end 0) 72) ≡ false)
-bare s end e o h = (rw e at o, rw e at h)
+pub returns-in-Some-eq111 : goal.returns-in-Some-eq111
+returns-in-Some-eq111 c = c.number_literal.ensures ∙ ap (scanned_of _) (sym (suffix_octal _ _ _ c.requires.0 c.requires.1 (c.run_end-end.ensures is_hex_digit (λ _ _ _ e. e)) (search rules)))
 
-pub overflow_add-end : goal.overflow_add-end
-overflow_add-end c = omega (arith, inside c.args.source.now c.args.at c.requires (c.run_end-end.ensures is_hex_digit (λ _ _ _ e. e)))
+pub returns-in-Some-eq104 : goal.returns-in-Some-eq104
+returns-in-Some-eq104 c = c.number_literal-in-Some-eq104.ensures ∙ ap (scanned_of _) (sym (suffix_hexadecimal _ _ _ c.requires.0 c.requires.1 (c.run_end-end.ensures is_hex_digit (λ _ _ _ e. e)) (search rules) (search rules)))
 
-pub number_literal-requires : goal.number_literal-requires
-number_literal-requires c = search (rules, inside c.args.source.now c.args.at c.requires (c.run_end-end.ensures is_hex_digit (λ _ _ _ e. e)), hex c.args.source.now c.args.at c.requires (c.run_end-end.ensures is_hex_digit (λ _ _ _ e. e)))
+pub returns-then-run_end-last : goal.returns-then-run_end-last
+returns-then-run_end-last c = c.plain.ensures ∙ larger_scanned _ _ (inside c.args.source.now c.args.at c.requires (c.run_end-end.ensures is_hex_digit (λ _ _ _ e. e))).0 ∙ ap (scanned_of _) (sym (suffix_larger _ _ _ c.requires.0 c.requires.1 (c.run_end-end.ensures is_hex_digit (λ _ _ _ e. e)) (search rules) (search rules) (search rules) _ (c.run_end.ensures up_to_one (λ _ _ _ e. e)) c.if-run_end-last.true))
 
-pub returns-then-is_letter : goal.returns-then-is_letter
-returns-then-is_letter c = c.number_literal.ensures ∙ ap (scanned_of _) (sym (suffix_octal _ _ _ c.requires.0 c.requires.1 (c.run_end-end.ensures is_hex_digit (λ _ _ _ e. e)) (rw c.char_at-after.ensures at (sym c.is_letter.ensures ∙ c.if-is_letter.true))))
+pub returns-in-98 : goal.returns-in-98
+returns-in-98 c = c.number_literal-in-98.ensures ∙ ap (scanned_of _) (sym (suffix_binary _ _ _ c.requires.0 c.requires.1 (c.run_end-end.ensures is_hex_digit (λ _ _ _ e. e)) (search rules) (search rules) (search rules) _ (c.run_end.ensures up_to_one (λ _ _ _ e. e)) c.if-run_end-last.false))
 
-pub overflow_add-end-then-is_letter-2 : goal.overflow_add-end-then-is_letter-2
-overflow_add-end-then-is_letter-2 c = omega (arith, inside c.args.source.now c.args.at c.requires (c.run_end-end.ensures is_hex_digit (λ _ _ _ e. e)))
+pub returns-in-100 : goal.returns-in-100
+returns-in-100 c = c.number_literal-in-100.ensures ∙ ap (scanned_of _) (sym (suffix_decimal _ _ _ c.requires.0 c.requires.1 (c.run_end-end.ensures is_hex_digit (λ _ _ _ e. e)) (search rules) (search rules) (search rules) (search rules)))
 
-pub number_literal-requires-then-is_letter-2 : goal.number_literal-requires-then-is_letter-2
-number_literal-requires-then-is_letter-2 c = search (rules, inside c.args.source.now c.args.at c.requires (c.run_end-end.ensures is_hex_digit (λ _ _ _ e. e)), hex c.args.source.now c.args.at c.requires (c.run_end-end.ensures is_hex_digit (λ _ _ _ e. e)))
-
-pub returns-then-is_letter-2 : goal.returns-then-is_letter-2
-returns-then-is_letter-2 c = c.number_literal-then-is_letter-2.ensures ∙ ap (scanned_of _) (sym (suffix_hexadecimal _ _ _ c.requires.0 c.requires.1 (c.run_end-end.ensures is_hex_digit (λ _ _ _ e. e)) (rw c.char_at-after.ensures at (sym c.is_letter.ensures ∙ c.if-is_letter.false)) (rw c.char_at-after.ensures at (sym c.is_letter-2.ensures ∙ c.if-is_letter-2.true))))
+pub returns : goal.returns
+returns c = c.number_literal-2.ensures ∙ ap (scanned_of _) (sym (suffix_none _ _ _ c.requires.0 c.requires.1 (c.run_end-end.ensures is_hex_digit (λ _ _ _ e. e)) (search rules) (search rules) (search rules) (search rules)))
 
 pub overflow_sub-last : goal.overflow_sub-last
 overflow_sub-last c = omega (arith, inside c.args.source.now c.args.at c.requires (c.run_end-end.ensures is_hex_digit (λ _ _ _ e. e)))
@@ -52,23 +46,20 @@ overflow_sub-last c = omega (arith, inside c.args.source.now c.args.at c.require
 pub bounds-source-last : goal.bounds-source-last
 bounds-source-last c = omega (arith, inside c.args.source.now c.args.at c.requires (c.run_end-end.ensures is_hex_digit (λ _ _ _ e. e)))
 
-pub returns-then-run_end-last : goal.returns-then-run_end-last
-returns-then-run_end-last c = larger_scanned _ _ (inside c.args.source.now c.args.at c.requires (c.run_end-end.ensures is_hex_digit (λ _ _ _ e. e))).0 ∙ ap (scanned_of _) (sym (suffix_larger _ _ _ c.requires.0 c.requires.1 (c.run_end-end.ensures is_hex_digit (λ _ _ _ e. e)) (bare c.args.source.now c.run_end-end.result c.char_at-after.ensures (sym c.is_letter.ensures ∙ c.if-is_letter.false) (sym c.is_letter-2.ensures ∙ c.if-is_letter-2.false)).0 (bare c.args.source.now c.run_end-end.result c.char_at-after.ensures (sym c.is_letter.ensures ∙ c.if-is_letter.false) (sym c.is_letter-2.ensures ∙ c.if-is_letter-2.false)).1 (sym c.is_letter-3.ensures ∙ c.if-is_letter-3.true) _ (c.run_end.ensures up_to_one (λ _ _ _ e. e)) c.if-run_end-last.true))
+pub overflow_add-end : goal.overflow_add-end
+overflow_add-end c = omega (arith, inside c.args.source.now c.args.at c.requires (c.run_end-end.ensures is_hex_digit (λ _ _ _ e. e)))
 
-pub number_literal-requires-then-is_letter-3 : goal.number_literal-requires-then-is_letter-3
-number_literal-requires-then-is_letter-3 c = search (rules, inside c.args.source.now c.args.at c.requires (c.run_end-end.ensures is_hex_digit (λ _ _ _ e. e)), hex c.args.source.now c.args.at c.requires (c.run_end-end.ensures is_hex_digit (λ _ _ _ e. e)))
+pub number_literal-requires : goal.number_literal-requires
+number_literal-requires c = search (rules, inside c.args.source.now c.args.at c.requires (c.run_end-end.ensures is_hex_digit (λ _ _ _ e. e)), hex c.args.source.now c.args.at c.requires (c.run_end-end.ensures is_hex_digit (λ _ _ _ e. e)))
 
-pub returns-then-is_letter-3 : goal.returns-then-is_letter-3
-returns-then-is_letter-3 c = c.number_literal-then-is_letter-3.ensures ∙ ap (scanned_of _) (sym (suffix_binary _ _ _ c.requires.0 c.requires.1 (c.run_end-end.ensures is_hex_digit (λ _ _ _ e. e)) (bare c.args.source.now c.run_end-end.result c.char_at-after.ensures (sym c.is_letter.ensures ∙ c.if-is_letter.false) (sym c.is_letter-2.ensures ∙ c.if-is_letter-2.false)).0 (bare c.args.source.now c.run_end-end.result c.char_at-after.ensures (sym c.is_letter.ensures ∙ c.if-is_letter.false) (sym c.is_letter-2.ensures ∙ c.if-is_letter-2.false)).1 (sym c.is_letter-3.ensures ∙ c.if-is_letter-3.true) _ (c.run_end.ensures up_to_one (λ _ _ _ e. e)) c.if-run_end-last.false))
+pub number_literal-requires-in-Some-eq104 : goal.number_literal-requires-in-Some-eq104
+number_literal-requires-in-Some-eq104 c = search (rules, inside c.args.source.now c.args.at c.requires (c.run_end-end.ensures is_hex_digit (λ _ _ _ e. e)), hex c.args.source.now c.args.at c.requires (c.run_end-end.ensures is_hex_digit (λ _ _ _ e. e)))
 
-pub number_literal-requires-then-is_letter-4 : goal.number_literal-requires-then-is_letter-4
-number_literal-requires-then-is_letter-4 c = search (rules, inside c.args.source.now c.args.at c.requires (c.run_end-end.ensures is_hex_digit (λ _ _ _ e. e)), hex c.args.source.now c.args.at c.requires (c.run_end-end.ensures is_hex_digit (λ _ _ _ e. e)))
+pub number_literal-requires-in-98 : goal.number_literal-requires-in-98
+number_literal-requires-in-98 c = search (rules, inside c.args.source.now c.args.at c.requires (c.run_end-end.ensures is_hex_digit (λ _ _ _ e. e)), hex c.args.source.now c.args.at c.requires (c.run_end-end.ensures is_hex_digit (λ _ _ _ e. e)))
 
-pub returns-then-is_letter-4 : goal.returns-then-is_letter-4
-returns-then-is_letter-4 c = c.number_literal-then-is_letter-4.ensures ∙ ap (scanned_of _) (sym (suffix_decimal _ _ _ c.requires.0 c.requires.1 (c.run_end-end.ensures is_hex_digit (λ _ _ _ e. e)) (bare c.args.source.now c.run_end-end.result c.char_at-after.ensures (sym c.is_letter.ensures ∙ c.if-is_letter.false) (sym c.is_letter-2.ensures ∙ c.if-is_letter-2.false)).0 (bare c.args.source.now c.run_end-end.result c.char_at-after.ensures (sym c.is_letter.ensures ∙ c.if-is_letter.false) (sym c.is_letter-2.ensures ∙ c.if-is_letter-2.false)).1 (sym c.is_letter-3.ensures ∙ c.if-is_letter-3.false) (sym c.is_letter-4.ensures ∙ c.if-is_letter-4.true)))
+pub number_literal-requires-in-100 : goal.number_literal-requires-in-100
+number_literal-requires-in-100 c = search (rules, inside c.args.source.now c.args.at c.requires (c.run_end-end.ensures is_hex_digit (λ _ _ _ e. e)), hex c.args.source.now c.args.at c.requires (c.run_end-end.ensures is_hex_digit (λ _ _ _ e. e)))
 
 pub number_literal-requires-2 : goal.number_literal-requires-2
 number_literal-requires-2 c = search (rules, inside c.args.source.now c.args.at c.requires (c.run_end-end.ensures is_hex_digit (λ _ _ _ e. e)), hex c.args.source.now c.args.at c.requires (c.run_end-end.ensures is_hex_digit (λ _ _ _ e. e)))
-
-pub returns : goal.returns
-returns c = c.number_literal-2.ensures ∙ ap (scanned_of _) (sym (suffix_none _ _ _ c.requires.0 c.requires.1 (c.run_end-end.ensures is_hex_digit (λ _ _ _ e. e)) (bare c.args.source.now c.run_end-end.result c.char_at-after.ensures (sym c.is_letter.ensures ∙ c.if-is_letter.false) (sym c.is_letter-2.ensures ∙ c.if-is_letter-2.false)).0 (bare c.args.source.now c.run_end-end.result c.char_at-after.ensures (sym c.is_letter.ensures ∙ c.if-is_letter.false) (sym c.is_letter-2.ensures ∙ c.if-is_letter-2.false)).1 (sym c.is_letter-3.ensures ∙ c.if-is_letter-3.false) (sym c.is_letter-4.ensures ∙ c.if-is_letter-4.false)))

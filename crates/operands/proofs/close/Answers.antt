@@ -7,14 +7,13 @@ use Rattle.rules.specs.Records.{OD, OX, encode}
 use Rattle.lexer.specs.Text.{bytes}
 use Rattle.rules.specs.Reader.{at, ◌>>◌}
 use Rattle.rules.specs.Operands.{close}
-use Rattle.state.proofs.Chain.{starts, ends, comes, reads_done, reads_refused, writes, refuses, is_passed, then_denied, first_denied}
+use Rattle.state.proofs.Chain.{starts, ends, comes, reads_done, reads_refused, writes, refuses, is_passed, then_denied, first_denied, exits}
 use Rattle.state.proofs.Flat.{plain}
-use Rattle.expressions.proofs.Reading.{reads_handed}
 use Rattle.operands.proofs.close.Goals as goal
 
 pub returns-in_err-q : goal.returns-in_err-q
 unfolding close ◌>>◌
-returns-in_err-q c = reads_handed _ c.from_residual.ensures.1 (first_denied _ (c.in_err-q.ensures.so "]" refl (plain "]" refl)).so)
+returns-in_err-q c = rw (exits c.from_residual.ensures.1) (reads_refused (first_denied _ (c.in_err-q.ensures.so "]" refl (plain "]" refl)).so))
 
 pub returns-then-not-bracket : goal.returns-then-not-bracket
 unfolding close ◌>>◌
@@ -24,7 +23,7 @@ returns-then-not-bracket c =
 
 pub returns-in-Some : goal.returns-in-Some
 unfolding close ◌>>◌ encode bytes
-returns-in-Some c = reads_done (ends (comes _ _ (comes _ _ (starts _ _ _ _ _) (c.in_ok-q.ensures.so "]" refl (plain "]" refl)).so) is_passed) (rw (c.in-Some.is, sym c.coded-size.ensures, sym c.coded-segment.ensures) (writes (OX _ _ _ _ _ _) c.put_record.ensures)))
+returns-in-Some c = reads_done (ends (comes _ _ (comes _ _ (starts _ _ _ _ _) (c.in_ok-q.ensures.so "]" refl (plain "]" refl)).so) is_passed) (rw (c.in-Some.is, sym c.from.ensures, sym c.from-has.ensures, sym c.coded-size.ensures, sym c.coded-segment.ensures) (writes (OX _ _ _ _ _ _) c.put_record.ensures)))
 
 pub returns-else-not-bracket : goal.returns-else-not-bracket
 unfolding close ◌>>◌ encode bytes

@@ -3,13 +3,12 @@
 use mathlib.Core.Path.{sym}
 use mathlib.Core.Option.{some}
 use Rattle.rules.specs.Reader.{at, ◌>>◌}
-use Rattle.state.proofs.Chain.{looks_comes, looks_denied, refuses, returns as gives, is_passed, then_comes, then_denied, first_denied}
-use Rattle.operands.proofs.Laws.{looks_handed}
+use Rattle.state.proofs.Chain.{looks_comes, looks_denied, refuses, returns as gives, is_passed, then_comes, then_denied, exits}
+use Rattle.operands.proofs.Laws.{next_denied}
 use Rattle.operands.proofs.index.Goals as goal
 
 pub returns-in_err-q : goal.returns-in_err-q
-unfolding ◌>>◌
-returns-in_err-q c = looks_handed c.from_residual.ensures.1 (first_denied _ c.in_err-q.ensures.so)
+returns-in_err-q c = rw (exits c.from_residual.ensures.1) (looks_denied (next_denied _ c.in_err-q.ensures.so))
 
 pub returns-then-is_index : goal.returns-then-is_index
 unfolding ◌>>◌

@@ -5,13 +5,13 @@ use mathlib.Core.Option.{none}
 use Rattle.names.specs.Names.{registers}
 use Rattle.rules.specs.Reader.{encoding, ◌>>◌}
 use Rattle.rules.specs.Operands.{plus_index}
-use Rattle.state.proofs.Chain.{looks_comes, looks_denied, refuses, returns as gives, is_ahead, then_comes, then_denied, first_denied, attempt_back, attempt_denied}
-use Rattle.operands.proofs.Laws.{within, is_found, is_absent, then_looks, attempt_looks, looks_handed}
+use Rattle.state.proofs.Chain.{looks_comes, looks_denied, refuses, returns as gives, is_ahead, then_comes, then_denied, attempt_back, attempt_denied, exits}
+use Rattle.operands.proofs.Laws.{next_denied, within, is_found, is_absent, then_looks, attempt_looks}
 use Rattle.operands.proofs.plus_index.Goals as goal
 
 pub returns-in_err-q : goal.returns-in_err-q
-unfolding plus_index ◌>>◌
-returns-in_err-q c = looks_handed c.from_residual.ensures.1 (attempt_denied _ (first_denied _ c.in_err-q.ensures.so))
+unfolding plus_index
+returns-in_err-q c = rw (exits c.from_residual.ensures.1) (looks_denied (attempt_denied _ (next_denied _ c.in_err-q.ensures.so)))
 
 pub returns-in_default : goal.returns-in_default
 unfolding plus_index ◌>>◌
@@ -26,4 +26,4 @@ returns-then-is_index c = attempt_looks _ (then_looks _ c.in_ok-q.ensures.so (th
 
 pub returns : goal.returns
 unfolding plus_index ◌>>◌
-returns c = looks_denied (attempt_denied _ (then_denied _ c.in_ok-q.ensures.so (then_denied _ is_ahead (rw (is_found _ c.in-Some.ensures, sym c.if-is_index.ensures) (refuses (encoding c.args.from c.in_ok-q.q.pos c.args.r c.in-Some.s) refl)))))
+returns c = looks_denied (attempt_denied _ (then_denied _ c.in_ok-q.ensures.so (then_denied _ is_ahead (rw (is_found _ c.in-Some.ensures, sym c.if-is_index.ensures) (refuses (encoding c.args.r.from c.in_ok-q.q.pos c.args.r.register c.in-Some.s) refl)))))

@@ -11,14 +11,14 @@ use Rattle.patch.proofs.Placing.{Parts, parts, written}
 use borrow.Author.Rules.{rules}
 use Rattle.patch.proofs.apply.Goals as goal
 
-whole : (l : List ℕ) {line : List ℕ} {x : Plan} → ((i : ℕ) → Fits w8 (get_or l i 0)) → Surveyed line l x → Parts l x.place x.old x.below x.on
+whole : (l : List ℕ) {line : List ℕ} {x : Plan} → ((i : ℕ) → Fits w8 (get_or l i 0)) → Surveyed line l x → Parts l x.place x.shift.old x.below x.on
 whole l f q = parts (octets l (λ i. (f i).fits)) q.decodes q.below q.on
 
 pub slice_bounds-copy-end : goal.slice_bounds-copy-end
 slice_bounds-copy-end c = let w = whole c.args.listing.now c.type_inv.listing c.requires.1 in sym (length-take-le c.args.x.below c.args.listing.now (omega (arith, w.order, w.all)))
 
 pub move_rest-requires : goal.move_rest-requires
-move_rest-requires c = let w = whole c.args.listing.now c.type_inv.listing c.requires.1 in (w.decodes, omega (arith, w.all), c.requires.1.new, search rules)
+move_rest-requires c = let w = whole c.args.listing.now c.type_inv.listing c.requires.1 in (w.decodes, omega (arith, w.all), search rules)
 
 pub overflow_sub-result : goal.overflow_sub-result
 overflow_sub-result c = omega (arith, (whole c.args.listing.now c.type_inv.listing c.requires.1).all)

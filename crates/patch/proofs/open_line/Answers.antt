@@ -10,7 +10,7 @@ use Rattle.patch.proofs.open_line.Goals as goal
 use Rattle.patch.proofs.open_line.Goals.{then-leaves_open, else-leaves_open}
 
 pub slice_bounds-leaves_open-end : goal.slice_bounds-leaves_open-end
-slice_bounds-leaves_open-end c = let x = c.args.x in omega (arith, end_within x.old.now x.place (begins_within x.old.now x.place x.begins), x.ends)
+slice_bounds-leaves_open-end c = let x = c.args.x in omega (arith, end_within x.old.text.now x.place (begins_within x.old.text.now x.place x.begins), x.ends)
 
 pub returns-then-leaves_open-2 : goal.returns-then-leaves_open-2
 returns-then-leaves_open-2 c =

@@ -1,4 +1,3 @@
-use mathlib.Core.Path.{refl}
 use mathlib.Core.List.{[]}
 use borrow.Author.Rules.{rules}
 use Rattle.text.proofs.Puts.{follows}
@@ -15,7 +14,7 @@ loop-size-preserved c = begun_more c.loop-size.invariant c.in-Some.ensures
 pub returns-clause-holds : goal.returns-clause-holds
 returns-clause-holds c =
     let left = c.in_default.ensures in
-    holds (ended c.loop-size.invariant (none_left c.args.listing.now _ left.0) (follows [] _ left.1 c.put_end.ensures)) refl (search rules)
+    holds (ended c.loop-size.invariant (none_left c.args.listing.now _ left.0) (follows [] _ left.1 c.put_end.ensures)) c.new-text.ensures.place (search rules) (search rules)
 
 pub returns-clause-listing_len_bound : goal.returns-clause-listing_len_bound
 returns-clause-listing_len_bound c = ended_short c.loop-size.invariant (none_left c.args.listing.now _ c.in_default.ensures.0)

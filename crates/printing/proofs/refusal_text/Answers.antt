@@ -1,5 +1,5 @@
 -- The word, the five numbers one behind the other, and the line feed.
-use mathlib.Core.Path.{refl, ap}
+use mathlib.Core.Path.{ap}
 use borrow.Author.Rules.{rules}
 use mathlib.Core.List.{[]}
 use lib.Seq.{take_all}
@@ -21,4 +21,4 @@ pub returns : goal.returns
 unfolding refusal_text line numbers bytes
 returns c =
     let put = follows _ _ (follows _ _ c.put_all.ensures (reads_as (ap numbers (take_all _ _ c.loop-value-test.false)) c.loop-value.invariant)) c.put.ensures in
-    holds (rw (c.number.ensures, c.first-first.ensures, c.second-second.ensures) at put) refl (search rules)
+    holds (rw (c.number.ensures, c.first-first.ensures, c.second-second.ensures) at put) c.new-text.ensures.place (search rules) (search rules)

@@ -6,7 +6,7 @@ use Rattle.reader.proofs.Lending.{too_long_lem, is_foreign, all_ascii, plain, fo
 use Rattle.reader.proofs.readable.Goals as goal
 
 pub returns-then-source-gt-SOURCE_MAX : goal.returns-then-source-gt-SOURCE_MAX
-returns-then-source-gt-SOURCE_MAX c = too_long_lem _ c.if-source-gt-SOURCE_MAX.true c.refused_at.ensures
+returns-then-source-gt-SOURCE_MAX c = too_long_lem _ c.if-source-gt-SOURCE_MAX.true c.refused_nowhere.ensures
 
 pub overflow_cast-from : goal.overflow_cast-from
 overflow_cast-from c = let h = c.if-source-gt-SOURCE_MAX.false in omega (arith, foreign_within _ c.in-Some.ensures)
@@ -18,7 +18,7 @@ pub invariant_of-result-in-None : goal.invariant_of-result-in-None
 invariant_of-result-in-None c = record { ascii = plain _ c.in-None.ensures }
 
 pub returns-in-Some : goal.returns-in-Some
-returns-in-Some c = is_foreign _ c.if-source-gt-SOURCE_MAX.false c.in-Some.ensures c.refused_at-in-Some.ensures
+returns-in-Some c = is_foreign _ c.if-source-gt-SOURCE_MAX.false c.in-Some.ensures c.refused_at.ensures
 
 pub returns-in-None : goal.returns-in-None
 returns-in-None c = all_ascii _ c.if-source-gt-SOURCE_MAX.false c.in-None.ensures refl

@@ -1,12 +1,12 @@
 -- 42, 1 and 2, then the reading of one statement.
 -- Assumes nothing.
 use native.Mathlib.Omega.{arith}
-use Rattle.reader.proofs.Lending.{handed_numbers}
+use Rattle.state.proofs.Chain.{exits}
 use Rattle.reader.proofs.OneReads.{call_within, call_answer, call_buffer, call_denied, buffer_denied}
 use Rattle.reader.proofs.statement_read.Goals as goal
 
 pub returns-in_err-readable_at-clause-answer : goal.returns-in_err-readable_at-clause-answer
-returns-in_err-readable_at-clause-answer c = handed_numbers _ _ c.from_residual.ensures.1 (call_denied _ _ c.args.out.now c.in_err-readable_at.ensures)
+returns-in_err-readable_at-clause-answer c = rw (exits c.from_residual.ensures.1) (call_denied _ _ c.args.out.now c.in_err-readable_at.ensures)
 
 pub returns-in_err-readable_at-clause-buffer : goal.returns-in_err-readable_at-clause-buffer
 returns-in_err-readable_at-clause-buffer c = buffer_denied _ _ _ c.in_err-readable_at.ensures

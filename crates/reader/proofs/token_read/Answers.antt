@@ -1,20 +1,17 @@
 -- 42, 1 and 2, then the token of the cursor at the place.
 -- Assumes nothing.
+use mathlib.Core.Path.{sym, ◌∙◌}
 use native.Mathlib.Omega.{arith}
-use Rattle.reader.proofs.Lending.{handed_numbers, token_denied, token_given, token_refused, within}
+use borrow.Author.Rules.{rules}
+use Rattle.state.proofs.Chain.{exits}
+use Rattle.reader.proofs.Lending.{token_denied, token_mapped, within}
 use Rattle.reader.proofs.token_read.Goals as goal
 
 pub returns-in_err-readable_at : goal.returns-in_err-readable_at
-returns-in_err-readable_at c = handed_numbers _ _ c.from_residual.ensures.1 (token_denied _ _ c.in_err-readable_at.ensures)
+returns-in_err-readable_at c = rw (exits c.from_residual.ensures.1) (token_denied _ _ c.in_err-readable_at.ensures)
 
-pub overflow_cast-from : goal.overflow_cast-from
-overflow_cast-from c = let w = within _ _ c.in_ok-readable_at.ensures c.in-Err.ensures in omega (arith, w.0)
+pub map_err-requires : goal.map_err-requires
+map_err-requires c bad e = let w = within _ _ c.in_ok-readable_at.ensures (sym e ∙ c.next_token.ensures) in (λ _ _ _. omega (arith, w.0), λ _ _ _ _. omega (arith, w.1))
 
-pub overflow_cast-to : goal.overflow_cast-to
-overflow_cast-to c = let w = within _ _ c.in_ok-readable_at.ensures c.in-Err.ensures in omega (arith, w.1)
-
-pub returns-in-Ok : goal.returns-in-Ok
-returns-in-Ok c = token_given _ _ c.in_ok-readable_at.ensures c.in-Ok.ensures
-
-pub returns-in-Err : goal.returns-in-Err
-returns-in-Err c = token_refused _ _ c.in_ok-readable_at.ensures c.refused_at.result c.in-Err.ensures c.reason_of.ensures c.refused_at.ensures
+pub returns : goal.returns
+returns c = token_mapped _ _ c.in_ok-readable_at.ensures _ _ _ c.next_token.ensures c.map_err.ensures.cases (λ bad r made. search rules)

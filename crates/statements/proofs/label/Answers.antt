@@ -2,14 +2,15 @@
 -- Assumes nothing.
 use borrow.Author.Tests.{eq-eqb}
 use Rattle.lexer.specs.declared.Kind.TheVariants as kind
-use Rattle.state.proofs.Chain.{ends, denied, lifts, lifts_denied, reads_done, reads_refused}
-use Rattle.statements.proofs.Lines.{exits, same_kind, other_kind}
-use Rattle.statements.proofs.Forms.{past_word, word_denied, label_colon, label_bare, label_denied}
+use Rattle.state.proofs.Chain.{exits, ends, denied, lifts, lifts_denied, reads_done, reads_refused}
+use Rattle.records.proofs.Writers.{same_still}
+use Rattle.statements.proofs.Lines.{same_kind, other_kind}
+use Rattle.statements.proofs.Forms.{past_word, word_stops, label_colon, label_bare, label_denied}
 use Rattle.statements.proofs.label.Goals.{then-eq+in_ok-q-2, else-eq}
 use Rattle.statements.proofs.label.Goals as goal
 
 pub returns-in_err-q : goal.returns-in_err-q
-returns-in_err-q c = rw (exits c.from_residual.ensures.1) (reads_refused (word_denied _ c.in_err-q.ensures.so))
+returns-in_err-q c = word_stops _ c.from_residual.ensures.1 (same_still _) c.in_err-q.ensures.so
 
 pub returns-in_err-q-2 : goal.returns-in_err-q-2
 returns-in_err-q-2 c =

@@ -1,5 +1,5 @@
 use native.Mathlib.Numerals.{add-one}
-use lib.Seq.{take-suc, take_all}
+use lib.Seq.{take-suc}
 use Rattle.records.proofs.Writers.{puts_nothing, puts_follow}
 use Rattle.statements.proofs.put_bytes.Goals as goal
 
@@ -8,6 +8,3 @@ loop-b-init c = puts_nothing _
 
 pub loop-b-preserved : goal.loop-b-preserved
 loop-b-preserved c = rw (add-one, take-suc c.args.bytes.now c.loop-b.b-index 0 c.loop-b-test.true) (puts_follow _ _ c.loop-b.invariant c.put.ensures)
-
-pub returns : goal.returns
-returns c = rw (take_all c.loop-b.b-index c.args.bytes.now c.loop-b-test.false) at c.loop-b.invariant

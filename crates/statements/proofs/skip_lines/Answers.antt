@@ -1,7 +1,8 @@
 use mathlib.Core.Path.{◌∙◌}
 use borrow.Author.Tests.{eq-eqb}
 use Rattle.lexer.specs.declared.Kind.TheVariants as kind
-use Rattle.statements.proofs.Lines.{exits, same_kind, other_kind, feed_falls, feed_skips, feed_denied, skip_stays}
+use Rattle.state.proofs.Chain.{exits}
+use Rattle.statements.proofs.Lines.{same_kind, other_kind, feed_falls, feed_skips, feed_denied, skip_stays}
 use Rattle.statements.proofs.skip_lines.Goals as goal
 
 pub returns-in_err-q : goal.returns-in_err-q

@@ -14,10 +14,10 @@ whole s at r byte e = ap (next_from at) e ∙ back at (kept_at s at byte)
 
 pub returns-in-Ok : goal.returns-in-Ok
 returns-in-Ok c =
-    ap (answered c.args.self.pos c.scan-kind.result.end) (sym c.in-Ok.is ∙ c.token_of.ensures)
-    ∙ whole c.args.source.now c.args.self.pos c.scan-kind.result (c.type_inv.source c.args.self.pos).fits c.scan-kind.ensures
+    ap (answered c.args.self.pos c.scan-scanned.result.end) (sym c.in-Ok.is ∙ c.token.ensures)
+    ∙ whole c.args.source.now c.args.self.pos c.scan-scanned.result (c.type_inv.source c.args.self.pos).fits c.scan-scanned.ensures
 
 pub returns-in-Err : goal.returns-in-Err
 returns-in-Err c =
-    ap (answered c.args.self.pos c.scan-kind.result.end) (sym c.in-Err.is ∙ c.token_of.ensures)
-    ∙ whole c.args.source.now c.args.self.pos c.scan-kind.result (c.type_inv.source c.args.self.pos).fits c.scan-kind.ensures
+    ap (answered c.args.self.pos c.scan-scanned.result.end) (sym c.in-Err.is ∙ c.token.ensures)
+    ∙ whole c.args.source.now c.args.self.pos c.scan-scanned.result (c.type_inv.source c.args.self.pos).fits c.scan-scanned.ensures

@@ -1,10 +1,9 @@
--- The table is held against the definition at each ASCII character, by computing; no character behind them is a token of its own.
+-- The table is held against the definition at each ASCII character, by computing.
 use Rattle.std.proofs.Common.{slice_index_or, None}
-use Prim.Native.Nat.{ℕ, zero, suc, ◌+◌, ◌≤◌, ◌<◌}
+use Prim.Native.Nat.{ℕ, zero, suc, ◌+◌, ◌<◌}
 use mathlib.Core.Path.{◌≡◌, refl, ap, ◌∙◌}
 use mathlib.Core.List.{List, [], ◌∷◌}
 use native.Mathlib.Omega.{arith}
-use borrow.Author.Tests.{ne_eqb}
 use Rattle.std.specs.Prelude.{Option}
 use Rattle.lexer.specs.Text.{is}
 use Rattle.lexer.specs.Scanned.{single}
@@ -30,26 +29,3 @@ from_table table e c h =
 pub returns-then-c-lt128 : goal.returns-then-c-lt128
 unfolding listed single is
 returns-then-c-lt128 c = from_table KINDS refl c.args.c c.if-c-lt128.true
-
-behind : (c : ℕ) → 128 ≤ c → None ≡ single c
-unfolding single is
-behind c h =
-    let n : (a : ℕ) → a < 128 → c ≡ a → ⊥ = λ a l e. omega arith in
-    rw (
-      ne_eqb c 10 (n 10 (omega arith)),
-      ne_eqb c 58 (n 58 (omega arith)),
-      ne_eqb c 44 (n 44 (omega arith)),
-      ne_eqb c 36 (n 36 (omega arith)),
-      ne_eqb c 46 (n 46 (omega arith)),
-      ne_eqb c 91 (n 91 (omega arith)),
-      ne_eqb c 93 (n 93 (omega arith)),
-      ne_eqb c 40 (n 40 (omega arith)),
-      ne_eqb c 41 (n 41 (omega arith)),
-      ne_eqb c 43 (n 43 (omega arith)),
-      ne_eqb c 45 (n 45 (omega arith)),
-      ne_eqb c 42 (n 42 (omega arith)),
-      ne_eqb c 47 (n 47 (omega arith)),
-    )
-
-pub returns-else-c-lt128 : goal.returns-else-c-lt128
-returns-else-c-lt128 c = behind c.args.c c.if-c-lt128.false

@@ -19,7 +19,7 @@ unfolding above
 returns-then-not-is_bare c =
     let from = c.line_start-begin in
     c.leaves_open.ensures
-    ∙ at_nearest c.args.source.now c.loop-below.below from.result (c.loop-below.below - 1) (leaves_open present) c.loop-below.invariant.0 c.loop-below-test.true refl
+    ∙ at_nearest c.args.source.text.now c.loop-below.below from.result (c.loop-below.below - 1) (leaves_open present) c.loop-below.invariant.0 c.loop-below-test.true refl
     from.ensures.1 from.ensures.0 from.ensures.2 (sym c.is_bare.ensures ∙ c.if-not-is_bare.true)
     ∙ c.loop-below.invariant.1
 
@@ -27,7 +27,7 @@ pub loop-below-preserved : goal.loop-below-preserved
 loop-below-preserved c =
     let from = c.line_start-begin in (
       from.ensures.1,
-      past_bare c.args.source.now c.loop-below.below from.result (c.loop-below.below - 1) (leaves_open present) c.loop-below.invariant.0 c.loop-below-test.true refl
+      past_bare c.args.source.text.now c.loop-below.below from.result (c.loop-below.below - 1) (leaves_open present) c.loop-below.invariant.0 c.loop-below-test.true refl
           from.ensures.1 from.ensures.0 from.ensures.2 (sym c.is_bare.ensures ∙ c.if-not-is_bare.false)
           ∙ c.loop-below.invariant.1,
     )

@@ -1,14 +1,8 @@
 use mathlib.Core.Path.{sym, ◌∙◌}
 use native.Mathlib.Omega.{arith}
 use Rattle.records.proofs.OneRecord.{room_all, size_six}
-use Rattle.records.proofs.Walks.{passes_first, passes_end, passes_found, passes_again}
+use Rattle.records.proofs.Walks.{passes_end, passes_found, passes_again}
 use Rattle.records.proofs.moves.first_from.Goals as goal
-
-pub loop-i-init : goal.loop-i-init
-loop-i-init c = passes_first _ c.requires
-
-pub mark_at-mark-requires : goal.mark_at-mark-requires
-mark_at-mark-requires c = (c.loop-i.invariant.decodes', c.loop-i-test.true)
 
 pub returns-then-starts : goal.returns-then-starts
 returns-then-starts c = passes_found c.loop-i.invariant c.mark_at-mark.ensures (sym c.if-starts.true ∙ c.starts.ensures)

@@ -1,7 +1,7 @@
 use Rattle.std.proofs.Common.{◌∙◌, ap, ◌+◌, ℕ, List, get_or}
 use lib.ListN.{set}
-use Rattle.lines.proofs.Copies.{stored_none, stored_more}
-use Rattle.lines.proofs.copy.Goals as goal
+use Rattle.records.proofs.Writes.{stored_none, stored_more}
+use Rattle.records.proofs.copy.Goals as goal
 
 pub loop-i-init : goal.loop-i-init
 loop-i-init c = stored_none c.args.out.now c.args.at c.args.run.now
