@@ -26,10 +26,10 @@ use Rattle.state.specs.declared.Parser.{Parser}
 use Rattle.refusals.specs.declared.Refusal.{Refusal}
 use Rattle.operators.specs.declared.Operator.{Operator}
 use Rattle.operators.specs.declared.Operator.TheVariants.{Add, Subtract, Multiply, Divide}
-use Rattle.state.specs.Views.{Plain, ends_line, kind_by, text_of, here_of, line_of, line, Denies, Level, On, Passes, PassesAs, Reads, ReadsAs}
+use Rattle.state.specs.Views.{Plain, ends_line, kind_by, text_of, here_of, line_of, line, Level, On, Passes, PassesAs, Reads, ReadsAs}
 use Rattle.operators.specs.Operators.{operator_number, prefix_level_of}
-use Rattle.state.proofs.Chain.{Sofar, starts, becomes, called_denied, comes, still, is_ahead, is_kind, lent_sofar, reads_refused_on}
-use Rattle.records.proofs.Writers.{same_still, same_on}
+use Rattle.state.proofs.Chain.{Sofar, starts, becomes, comes, still, is_ahead, is_kind}
+use Rattle.records.proofs.Writers.{same_still}
 use Rattle.state.proofs.Steps.{has_more}
 use Rattle.state.proofs.Flat.{by_kind, mark_is, plain}
 use Rattle.state.proofs.ByNumber.{number_tells}
@@ -102,14 +102,6 @@ no_sign Add e = cc
 no_sign Subtract e = cc
 no_sign Multiply e = refl
 no_sign Divide e = refl
-
--- what is called refuses, and so the reader does: one that writes nothing, and one that may have written
-module _ {L : Level} {s : List ℕ} {p q : Parser} {m : Reader (On L) (Unit {0})} {o n : Writer} {x : Refusal} where
-  pub passes_refused : {A : Type 0} (m₁ : Reader (On L) A) (k : A → Reader (On L) (Unit {0})) → Sofar L s p m o q (m₁ >>= k) n → Denies L s q m₁ x → Reads L s p m o n (Err x)
-  passes_refused m₁ k so h = reads_refused_on (lent_sofar so) (called_denied m₁ k so h)
-
-  pub called_refused : (m₁ : Reader (On L) (Unit {0})) (k : Unit {0} → Reader (On L) (Unit {0})) → Sofar L s p m o q (m₁ >>= k) n → {w : Writer} → Reads L s q m₁ n w (Err x) → Reads L s p m o w (Err x)
-  called_refused m₁ k so h = reads_refused_on (same_on (lent_sofar so) h.lent) (called_denied m₁ k so h.so)
 
 -- what writes nothing
 pub reads_passed : {L : Level} {s : List ℕ} {p : Parser} {m : Reader (On L) (Unit {0})} {o : Writer} {r : Result Parser Refusal} → Passes L s p m r → Reads L s p m o o r

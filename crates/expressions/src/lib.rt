@@ -5,13 +5,13 @@ ghost use Rattle.std.specs.Prelude.{◌≡◌, length};
 ghost use Rattle.std.proofs.Math.Option.{some};
 ghost use Rattle.rules.specs.Expressions as rules;
 ghost use Rattle.rules.specs.Lexemes.{mark};
-ghost use Rattle.rules.specs.Records.{plain, encode};
+ghost use Rattle.rules.specs.Records.{plain};
 ghost use Rattle.records.specs.Marks.{letters_of};
 ghost use Rattle.lexer.specs.Scanned.{number_of as kind_number};
 ghost use Rattle.lexer.specs.declared.Kind.TheVariants as Kind;
 ghost use Rattle.state.specs.Views.{InLine, line_of, line, Reads};
 ghost use Rattle.operators.specs.Operators.{operator_number};
-ghost use Rattle.expressions.specs.Ahead.{number_in, TokenRecord};
+ghost use Rattle.expressions.specs.Ahead.{number_in, token_record};
 
 use lexer::Kind;
 use operators::Operator;
@@ -178,7 +178,7 @@ pub fn token_record<const N: usize>(
     fields: [u32; N],
 ) -> Result<Parser, Refusal>
     requires { InLine p }
-    ensures { TokenRecord source.entry.text.now p (encode (plain (letters_of mark) fields.entry)) out.old out.new result }
+    ensures { Reads line source.entry.text.now p (token_record (plain (letters_of mark) fields.entry)) out.old out.new result }
 {
     let q = next(source, p)?;
     out.put_record(mark, fields);

@@ -138,6 +138,15 @@ module _ {L : Level} {s : List ℕ} {p : Parser} {A B : Type 0} {seen : B → A}
   pub looks_denied : {r : Refusal} → Denies L s p m r → Looks L s p seen m (Err r)
   looks_denied h = record { so = h }
 
+-- The exit of a `?`: what was called next is refused, when the writer was n. It is w now, or n still.
+module _ {L : Level} {s : List ℕ} {p q : Parser} {m : Reader (On L) (Unit {0})} {o n : Writer} {r : Result Parser Refusal} {x : Refusal} (e : IsErrAnd r (λ y. y ≡ x)) where
+  module _ {A : Type 0} (m₁ : Reader (On L) A) (k : A → Reader (On L) (Unit {0})) (so : Sofar L s p m o q (m₁ >>= k) n) where
+    pub stops_on : {w : Writer} → SameBuffer n w → Denies L s q m₁ x → Reads L s p m o w r
+    stops_on h d = rw (exits e) (reads_refused_on (same_on (lent_sofar so) h) (called_denied m₁ k so d))
+
+    pub stops : Denies L s q m₁ x → Reads L s p m o n r
+    stops d = stops_on (same_still n) d
+
 -- a record is written
 pub writes : {L : Level} {s : List ℕ} {p : Parser} {o n : Writer} (r : Record) → Puts (encode r) o n → Gives L s p (write r) o n p tt
 unfolding write listing

@@ -31,7 +31,8 @@ use Rattle.state.specs.declared.Parser.{Parser}
 use Rattle.refusals.specs.declared.Refusal.{Refusal}
 use Rattle.state.specs.Views.{ends_line, kind_by, text_of, here_of, state_of, whole, Gives, Denies, Comes, Reads, line as inside}
 use Rattle.state.proofs.Chain.{exits, reads_refused, reads_refused_on, after_nil, Sofar, starts, becomes, comes, called, called_denied, ends, first_denied, lifts_comes, lifts_denied, denied, refuses, refuses_here, writes, returns, is_kind, is_passed, reads_done}
-use Rattle.statements.proofs.Lines.{stops_on, end_is}
+use Rattle.statements.proofs.Lines.{end_is}
+use Rattle.state.proofs.Chain.{stops_on}
 use Rattle.state.proofs.Flat.{by_kind, mark_is, plain}
 
 -- past the word that a statement begins with

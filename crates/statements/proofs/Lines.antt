@@ -28,28 +28,16 @@ use Rattle.rules.proofs.Rows.{rows_some}
 use Rattle.rules.proofs.Progress.{AllEnded, total, size, Below}
 use Rattle.rules.proofs.Cut.{tokens_finished, tokens_count, rows_total, rows_all}
 use Rattle.state.specs.declared.Parser.{Parser}
-use Rattle.std.specs.Prelude.{Result, Ok, Err, IsErrAnd}
+use Rattle.std.specs.Prelude.{Result, Ok, Err}
 use Rattle.lexer.specs.declared.Kind.TheVariants as kind_ahead
 use Rattle.lexer.specs.Scanned.{number_of as kind_number}
 use Rattle.refusals.specs.declared.Refusal.{Refusal}
 use Rattle.refusals.specs.Refusals.{numbers}
-use Rattle.records.specs.declared.Writer.{Writer}
-use Rattle.records.specs.Writers.{SameBuffer}
-use Rattle.records.proofs.Writers.{same_still, same_on}
-use Rattle.state.specs.Views.{ends_line, text_of, here_of, behind, more_of, below_of, state_of, line_of, rows_of, line, whole, Level, On, Comes, Denies, Passes, PassesAs, Reads}
+use Rattle.state.specs.Views.{ends_line, text_of, here_of, behind, more_of, below_of, state_of, line_of, rows_of, line, whole, Comes, Passes, PassesAs}
 use Rattle.statements.specs.Statements.{begin, Starts, StartsAs}
-use Rattle.state.proofs.Chain.{exits, after_nil, passes_by, Sofar, called_denied, lent_sofar, reads_refused_on}
+use Rattle.state.proofs.Chain.{after_nil, passes_by}
 use Rattle.state.proofs.Flat.{line_end_is, kind_end, other_byte}
 use Rattle.state.proofs.Stream.{From, rows_first}
-
--- The exit of a `?`: what was called next is refused, when the writer was n. It is w now, or n still.
-module _ {L : Level} {s : List ℕ} {p q : Parser} {m : Reader (On L) (Unit {0})} {o n : Writer} {r : Result Parser Refusal} {x : Refusal} (e : IsErrAnd r (λ y. y ≡ x)) where
-  module _ {A : Type 0} (m₁ : Reader (On L) A) (k : A → Reader (On L) (Unit {0})) (so : Sofar L s p m o q (m₁ >>= k) n) where
-    pub stops_on : {w : Writer} → SameBuffer n w → Denies L s q m₁ x → Reads L s p m o w r
-    stops_on h d = rw (exits e) (reads_refused_on (same_on (lent_sofar so) h) (called_denied m₁ k so d))
-
-    pub stops : Denies L s q m₁ x → Reads L s p m o n r
-    stops d = stops_on (same_still n) d
 
 -- the token ahead by its kind
 pub is_of : {k n : Kind} → k ≡ n → eqb (kind_number k) (kind_number n) ≡ true

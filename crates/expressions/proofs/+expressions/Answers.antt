@@ -11,10 +11,11 @@ use Rattle.rules.specs.Records.{PF, IN}
 use Rattle.rules.specs.Reader.{nowhere, ◌>>◌}
 use Rattle.state.specs.Views.{line_of}
 use Rattle.state.proofs.ByNumber.{number_tells}
-use Rattle.state.proofs.Chain.{starts, called, called_denied, comes, ends, exits, denied, lands, writes, returns, refuses, refuses_here, is_passed, is_left, reads_done, reads_refused, hands_on}
+use Rattle.state.proofs.Chain.{starts, called, called_denied, comes, ends, denied, lands, writes, returns, refuses, refuses_here, is_passed, is_left, reads_done, reads_refused, hands_on}
 use Rattle.state.proofs.Flat.{plain}
 use Rattle.state.proofs.Steps.{one_less}
-use Rattle.expressions.proofs.Reading.{passes_refused, called_refused, reads_passed, operator_inside, operator_in_line, level_small, primary_opens, primary_signed, primary_operand, primary_no_operand, primary_atom, expr_over, expr_begins, none_left, too_loose, takes}
+use Rattle.state.proofs.Chain.{stops, stops_on}
+use Rattle.expressions.proofs.Reading.{reads_passed, operator_inside, operator_in_line, level_small, primary_opens, primary_signed, primary_operand, primary_no_operand, primary_atom, expr_over, expr_begins, none_left, too_loose, takes}
 use Rattle.expressions.proofs.Shorter.{no_longer}
 use Rattle.expressions.proofs.+expressions.Goals as goal
 
@@ -25,7 +26,7 @@ pub expression-returns-in_err-q : goal.expression-returns-in_err-q
 unfolding ◌>>◌
 expression-returns-in_err-q t c =
     let e : c.args.left ≡ suc (c.args.left - 1) = omega arith in
-    rw (exits c.from_residual.ensures.1) (called_refused _ _ (expr_begins _ _ _ _ e) c.in_err-q.ensures)
+    stops_on c.from_residual.ensures.1 _ _ (expr_begins _ _ _ _ e) c.in_err-q.ensures.lent c.in_err-q.ensures.so
 
 pub expression-returns : goal.expression-returns
 unfolding ◌>>◌
@@ -46,7 +47,7 @@ pub infixes-returns-in_err-behind : goal.infixes-returns-in_err-behind
 unfolding ◌>>◌
 infixes-returns-in_err-behind t c =
     let turn = takes _ _ _ _ _ c.in-Some.op (sym c.in-Some.ensures) c.loop-op.invariant.1 c.infix_level-binds.ensures c.if-binds-level.false c.loop-op.invariant.2 in
-    rw (exits c.from_residual.ensures.1) (passes_refused _ _ turn.2 c.in_err-behind.ensures.so)
+    stops c.from_residual.ensures.1 _ _ turn.2 c.in_err-behind.ensures.so
 
 pub infixes-overflow_add-binds : goal.infixes-overflow_add-binds
 infixes-overflow_add-binds t c = omega (arith, level_small c.in-Some.op, c.infix_level-binds.ensures)
@@ -55,7 +56,7 @@ pub infixes-returns-in_err-right : goal.infixes-returns-in_err-right
 unfolding ◌>>◌
 infixes-returns-in_err-right t c =
     let turn = takes _ _ _ _ _ c.in-Some.op (sym c.in-Some.ensures) c.loop-op.invariant.1 c.infix_level-binds.ensures c.if-binds-level.false c.loop-op.invariant.2 in
-    rw (exits c.from_residual-in_err-right.ensures.1) (called_refused _ _ (comes _ _ turn.2 c.in_ok-behind.ensures.so) c.in_err-right.ensures)
+    stops_on c.from_residual-in_err-right.ensures.1 _ _ (comes _ _ turn.2 c.in_ok-behind.ensures.so) c.in_err-right.ensures.lent c.in_err-right.ensures.so
 
 pub infixes-loop-op-smaller : goal.infixes-loop-op-smaller
 infixes-loop-op-smaller t c =
@@ -81,11 +82,11 @@ infixes-returns t c = reads_done (lands (none_left _ _ _ _ _ _ (sym c.in_default
 
 pub parenthesis-returns-in_err-q : goal.parenthesis-returns-in_err-q
 unfolding ◌>>◌
-parenthesis-returns-in_err-q t c = rw (exits c.from_residual.ensures.1) (passes_refused _ _ (primary_opens _ _ c.args.out.now _ c.requires) (called_denied _ _ (starts _ _ _ _ c.args.out.now) c.in_err-q.ensures.so))
+parenthesis-returns-in_err-q t c = stops c.from_residual.ensures.1 _ _ (primary_opens _ _ c.args.out.now _ c.requires) (called_denied _ _ (starts _ _ _ _ c.args.out.now) c.in_err-q.ensures.so)
 
 pub parenthesis-returns-in_err-inner : goal.parenthesis-returns-in_err-inner
 unfolding ◌>>◌
-parenthesis-returns-in_err-inner t c = rw (exits c.from_residual-in_err-inner.ensures.1) (called_refused _ _ (primary_opens _ _ _ _ c.requires) (hands_on (comes _ _ (starts _ _ _ _ _) c.in_ok-q.ensures.so) c.in_err-inner.ensures))
+parenthesis-returns-in_err-inner t c = stops_on c.from_residual-in_err-inner.ensures.1 _ _ (primary_opens _ _ _ _ c.requires) c.in_err-inner.ensures.lent (denied (comes _ _ (starts _ _ _ _ c.args.out.now) c.in_ok-q.ensures.so) c.in_err-inner.ensures.so)
 
 pub parenthesis-returns : goal.parenthesis-returns
 unfolding ◌>>◌
@@ -97,15 +98,15 @@ prefixed-next-requires t c = operator_in_line c.args.p.kind c.requires
 
 pub prefixed-returns-in_err-q : goal.prefixed-returns-in_err-q
 unfolding ◌>>◌
-prefixed-returns-in_err-q t c = rw (exits c.from_residual.ensures.1) (passes_refused _ _ (primary_signed _ _ c.args.out.now _ c.args.op c.requires) c.in_err-q.ensures.so)
+prefixed-returns-in_err-q t c = stops c.from_residual.ensures.1 _ _ (primary_signed _ _ c.args.out.now _ c.args.op c.requires) c.in_err-q.ensures.so
 
 pub prefixed-returns-in_default : goal.prefixed-returns-in_default
 unfolding ◌>>◌
-prefixed-returns-in_default t c = passes_refused _ _ (comes _ _ (primary_no_operand _ _ _ _ c.args.op c.requires (sym c.in_default.ensures)) c.in_ok-q.ensures.so) (refuses (nowhere 22) c.refused_nowhere.ensures)
+prefixed-returns-in_default t c = reads_refused (called_denied _ _ (comes _ _ (primary_no_operand _ _ c.args.out.now _ c.args.op c.requires (sym c.in_default.ensures)) c.in_ok-q.ensures.so) (refuses (nowhere 22) c.refused_nowhere.ensures))
 
 pub prefixed-returns-in_err-inner : goal.prefixed-returns-in_err-inner
 unfolding ◌>>◌
-prefixed-returns-in_err-inner t c = rw (exits c.from_residual-in_err-inner.ensures.1) (called_refused _ _ (comes _ _ (primary_operand _ _ _ _ c.args.op c.requires (sym c.in-Some.ensures)) c.in_ok-q.ensures.so) c.in_err-inner.ensures)
+prefixed-returns-in_err-inner t c = stops_on c.from_residual-in_err-inner.ensures.1 _ _ (comes _ _ (primary_operand _ _ _ _ c.args.op c.requires (sym c.in-Some.ensures)) c.in_ok-q.ensures.so) c.in_err-inner.ensures.lent c.in_err-inner.ensures.so
 
 pub prefixed-returns : goal.prefixed-returns
 unfolding ◌>>◌

@@ -3,10 +3,8 @@ use mathlib.Core.Path.{refl}
 use native.Mathlib.Nat.{le_refl}
 use native.Mathlib.Omega.{arith}
 use lib.ListN.{length}
-use Rattle.lexer.specs.Text.{bytes}
 use Rattle.lexer.specs.declared.Kind.TheVariants as kind
 use Rattle.names.specs.Names.{registers, segments, sizes}
-use Rattle.rules.specs.Records.{OR, OS, encode}
 use Rattle.rules.specs.Operands.{operand_sized, operand as rules-operand}
 use Rattle.state.specs.Views.{line_of}
 use Rattle.state.proofs.Chain.{starts, comes, denied, hands_on, is_ahead, is_left, exits, reads_refused_on, lent_sofar}
@@ -26,17 +24,17 @@ pub token_record-requires : goal.token_record-requires
 token_record-requires c = (omega arith, within c.args.source.text.now c.loop-source.q registers (is_register _ c.in-Some-Register.field-0-is c.in-Some-Register.ensures))
 
 pub returns-in-Some-Register : goal.returns-in-Some-Register
-unfolding operand_sized ◌>>◌ encode bytes
-returns-in-Some-Register c = hands_on (comes _ _ c.loop-source.invariant.2 is_ahead) (rw (other_there c.args.source.text.now c.loop-source.q kind.OpenBracket "[" (plain "[" refl) refl c.if-eq.ensures, is_register _ c.in-Some-Register.field-0-is c.in-Some-Register.ensures) (rw c.from.ensures at (c.token_record.ensures.so (OR _ _ _) refl)))
+unfolding operand_sized ◌>>◌
+returns-in-Some-Register c = hands_on (comes _ _ c.loop-source.invariant.2 is_ahead) (rw (other_there c.args.source.text.now c.loop-source.q kind.OpenBracket "[" (plain "[" refl) refl c.if-eq.ensures, is_register _ c.in-Some-Register.field-0-is c.in-Some-Register.ensures) (rw c.from.ensures at c.token_record.ensures))
 
 pub token_record-requires-in-Some-Segment : goal.token_record-requires-in-Some-Segment
 token_record-requires-in-Some-Segment c = (omega arith, within c.args.source.text.now c.loop-source.q segments (is_segment _ c.in-Some-Segment.field-0-is c.in-Some-Segment.ensures).1)
 
 pub returns-in-Some-Segment : goal.returns-in-Some-Segment
-unfolding operand_sized ◌>>◌ encode bytes
+unfolding operand_sized ◌>>◌
 returns-in-Some-Segment c =
     let s = is_segment _ c.in-Some-Segment.field-0-is c.in-Some-Segment.ensures in
-    hands_on (comes _ _ c.loop-source.invariant.2 is_ahead) (rw (other_there c.args.source.text.now c.loop-source.q kind.OpenBracket "[" (plain "[" refl) refl c.if-eq.ensures, s.0, s.1) (rw c.from-in-Some-Segment.ensures at (c.token_record-in-Some-Segment.ensures.so (OS _ _ _) refl)))
+    hands_on (comes _ _ c.loop-source.invariant.2 is_ahead) (rw (other_there c.args.source.text.now c.loop-source.q kind.OpenBracket "[" (plain "[" refl) refl c.if-eq.ensures, s.0, s.1) (rw c.from-in-Some-Segment.ensures at c.token_record-in-Some-Segment.ensures))
 
 pub next-requires : goal.next-requires
 next-requires c = within c.args.source.text.now c.loop-source.q sizes (is_size _ c.in-Some-Size.field-0-is c.in-Some-Size.ensures).2

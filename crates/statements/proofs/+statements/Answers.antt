@@ -4,7 +4,8 @@ use borrow.Author.Rules.{rules}
 use Rattle.lexer.specs.declared.Kind.TheVariants as kind
 use Rattle.rules.specs.Expressions.{expression}
 use Rattle.state.proofs.Chain.{exits, called, comes, lifts, lifts_denied, refuses_here, reads_done, reads_refused, reads_refused_on, reads_by, hands_on}
-use Rattle.statements.proofs.Lines.{stops, stops_on, same_by_ne, other_by_ne}
+use Rattle.state.proofs.Chain.{stops, stops_on}
+use Rattle.statements.proofs.Lines.{same_by_ne, other_by_ne}
 use Rattle.statements.proofs.Forms.{key_operation, key_directive, key_label, line_else, times_none, times_past, times_stops, content_none, content_denied, content_reads}
 use Rattle.statements.proofs.+statements.Goals as goal
 

@@ -6,7 +6,7 @@ use Rattle.rules.specs.Expressions.{expression}
 use Rattle.rules.specs.Statements.{constant}
 use Rattle.state.proofs.Chain.{called, lifts, lifts_denied}
 use Rattle.records.proofs.Writers.{same_still}
-use Rattle.statements.proofs.Lines.{stops_on}
+use Rattle.state.proofs.Chain.{stops_on}
 use Rattle.statements.proofs.Forms.{past_word, word_stops, recorded, line_goes_on}
 use Rattle.statements.proofs.constant.Goals as goal
 

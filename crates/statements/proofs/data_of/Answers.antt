@@ -4,7 +4,7 @@ use mathlib.Core.Path.{sym, ◌∙◌}
 use Rattle.rules.specs.Records.{LD}
 use Rattle.records.proofs.Writers.{data_put, same_begun, same_on}
 use Rattle.state.proofs.Chain.{lifts_denied, reads_refused_on}
-use Rattle.statements.proofs.Lines.{stops_on}
+use Rattle.state.proofs.Chain.{stops_on}
 use Rattle.statements.proofs.Forms.{word_stops, recorded, line_goes_on}
 use Rattle.statements.proofs.Data.{data_begun, data_read, data_some, data_none}
 use Rattle.statements.proofs.data_of.Goals as goal

@@ -5,7 +5,7 @@ use mathlib.Core.Path.{sym, ◌∙◌}
 use Rattle.rules.specs.Records.{LI}
 use Rattle.state.proofs.Chain.{called, comes, ends, writes, lifts, lifts_comes, lifts_denied, is_passed, reads_done}
 use Rattle.records.proofs.Writers.{same_still}
-use Rattle.statements.proofs.Lines.{stops_on}
+use Rattle.state.proofs.Chain.{stops_on}
 use Rattle.statements.proofs.Forms.{past_word, word_stops, recorded, line_goes_on, repeats, operates}
 use Rattle.statements.proofs.instruction.Goals as goal
 
