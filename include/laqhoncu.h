@@ -34,9 +34,9 @@ extern "C" {
 #define LAQHONCU_LISTING_FACTOR 18
 
 /* The bytes of stack that a call needs, with all that it calls; a fifth of each or more is to spare. A thread that calls needs its own
-   besides. However short the source, the full read takes most of its number, and the patch more than half; the lean full read and the
-   statement read take most of theirs only where a statement nests as deep as the limits 3 and 5 allow. OTHER is for each function that has no
-   number of its own. */
+   besides. The full read takes most of its number for a source above 16,384 bytes, and less for a shorter one; the patch takes more than
+   half of its own, however short the source; the lean full read and the statement read take most of theirs only where a statement nests as
+   deep as the limits 3 and 5 allow. OTHER is for each function that has no number of its own. */
 #define LAQHONCU_STACK_FULL_READ 356352
 #define LAQHONCU_STACK_FULL_READ_LEAN 28672
 #define LAQHONCU_STACK_PATCH 114688

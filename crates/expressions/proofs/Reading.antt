@@ -61,6 +61,11 @@ pub operator_is : (k v : ℕ) (w : List ℕ) → operator_of (kind_by k v w) ≡
 unfolding operator_of is_mark is
 operator_is k v w = by_kind (λ n x. operator_of x ≡ operator_of (mark n)) k v w refl refl refl refl refl refl refl refl refl (λ _ _ _ _. refl)
 
+-- a byte that is no operator
+pub none_of : (k : ℕ) → (k ≡ 43 → ⊥) → (k ≡ 45 → ⊥) → (k ≡ 42 → ⊥) → (k ≡ 47 → ⊥) → operator_of (mark k) ≡ none
+unfolding operator_of is_mark is
+none_of k a b c d = rw (ne_eqb k 43 a, ne_eqb k 45 b, ne_eqb k 42 c, ne_eqb k 47 d)
+
 -- the byte of an operator is no other byte
 pub operator_other : (k n : ℕ) {op : ℕ} → operator_of (mark n) ≡ none → operator_of (mark k) ≡ some op → eqb k n ≡ false
 operator_other k n {op} f e = ne_eqb k n λ h. let z : ◌≡◌ {A = Option ℕ} none (some op) = sym f ∙ ap (λ (m : ℕ). operator_of (mark m)) (sym h) ∙ e in absurd (none_some z)

@@ -10,7 +10,7 @@ ghost use Rattle.refusals.specs.Refusals.{number_of as reason_number};
 
 use characters::{
     Base, from_radix, is_at_most_one, is_binary_digit, is_decimal_digit, is_hexadecimal_digit,
-    is_identifier, is_identifier_first, is_octal_digit, is_quoted, is_remark, is_whitespace,
+    is_identifier, is_identifier_first, is_octal_digit, is_remark, is_whitespace, quoted_end,
     run_end,
 };
 use refusals::Reason;
@@ -350,7 +350,7 @@ pub fn scan(source: &[u8], at: usize) -> Scanned
         return Scanned::plain(Kind::Comment, run_end(source, at + 1, is_remark));
     }
     if c == b'\'' {
-        let end = run_end(source, at + 1, is_quoted);
+        let end = quoted_end(source, at + 1);
         if let Some(b'\'') = source.get(end) {
             return Scanned::plain(Kind::ClosedString, end + 1);
         }

@@ -2,10 +2,23 @@
 // not be written, that is said on standard error, and the exit status is 1; of an input that was not read to its end nothing is printed.
 #![tactic(auto)]
 
-use input::read_input;
+ghost use Rattle.std.specs.Prelude.{◌<◌, ◌≤◌, length, take, IfOk};
+ghost use Rattle.std.specs.Io.KnownBytes.{Consumes, IsAtEnd};
+
 use std::fmt::InlineText;
 use std::io;
+use std::io::Read;
 use std::process::ExitCode;
+
+// Reads until the input ends or the buffer is full, which has one byte more than a source may have, and gives how many bytes it read. The
+// buffer's length is in its type, so no shorter one is lent.
+fn read_input<R: Read>(from: &mut R, input: &mut [u8; 65537]) -> io::Result<usize>
+    ensures within { IfOk result (λ n. n ≤ 65537) }
+    ensures bytes { IfOk result (λ n. Consumes (R.remaining from.old) (R.remaining from.new) (take n input.new)) }
+    ensures whole { IfOk result (λ n. n < 65537 → IsAtEnd (R.remaining from.new)) }
+{
+    input::read_input(from, input)
+}
 
 // The reason in an error's text: what stands before the system's number.
 fn reason(text: &str) -> &str {

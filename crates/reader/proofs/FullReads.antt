@@ -126,6 +126,9 @@ module _ (a : Ascii) {p : Parser} (b : Started a.source.text.now 0 p) where
         let u : length (listing first.v) ≤ length l = omega (arith, size_is) in
         written_as size_is (is_written s l (small s a.ascii) a.source.short first.reads u (e ∙ ap (λ (x : List ℕ). stores l 0 x) t ∙ stored_over l (listing first.v) u))
 
+    pub never_denied : {o₂ w₂ : Writer} {r : Refusal} → ReadsStatements operations s p o₂ w₂ (Err r) → ⊥
+    never_denied k = let (c, e, _) = denies operations s p b k in never_both (sym first.reads ∙ e)
+
   again : {o w : Writer} (begins : o.at ≡ 0) {q : Parser} → ReadsStatements operations s p o w (Ok q)
       → {o₂ w₂ : Writer} → o₂.at ≡ 0 → {q₂ : Parser} → ReadsStatements operations s p o₂ w₂ (Ok q₂) → w.at ≤ length o₂.out.now
       → {l' : List ℕ} → (o₂.out.ghost_name ≡ w₂.out.ghost_name → l' ≡ w₂.out.now) → ReadsAll s o₂.out.now l' (Ok w.at)

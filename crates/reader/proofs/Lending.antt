@@ -145,6 +145,10 @@ module _ (s : List ℕ) where
       go none e = cc
       go (some p) e = let z : p ≡ i = cc in ap some z
 
+  pub place_found : {i : ℕ} → foreign 0 s ≡ some i → i ≡ foreign_place s
+  unfolding foreign_place
+  place_found e = rw e
+
   pub place_none : {i : ℕ} → foreign 0 s ≡ none → i ≡ length s → i ≡ foreign_place s
   unfolding foreign_place
   place_none e k = rw e k

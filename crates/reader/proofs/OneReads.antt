@@ -46,6 +46,9 @@ done_same e = cc
 never_other : {S : Type 0} {v w : List Record} {x y : S} → done v true x ≡ done w false y → ⊥
 never_other e = let z : ◌≡◌ {A = ℕ} 0 1 = cc in omega arith
 
+never_both : {S A : Type 0} {v : List Record} {a : A} {x : S} {c : Cause} → done v a x ≡ refused c → ⊥
+never_both e = let z : ◌≡◌ {A = ℕ} 0 1 = cc in omega arith
+
 written_as : {s l l' : List ℕ} {p n m k : ℕ} → n ≡ m → OneRead s p l l' (Ok (Some (record { length = m; ahead = k }))) → OneRead s p l l' (Ok (Some (record { length = n; ahead = k })))
 written_as e f = rw e f
 
@@ -112,6 +115,12 @@ module _ (a : Ascii) (place : ℕ) (within : place ≤ length a.source.text.now)
     pub read_again : {l : List ℕ} {o₂ w₂ : Writer} → o₂.at ≡ 0 → o₂.out.now ≡ l → (x : StatementRead) → ReadsStatement operations s p o₂ w₂ (Ok x) → w.at ≤ length l
         → {l' : List ℕ} → (o₂.out.ghost_name ≡ w₂.out.ghost_name → l' ≡ w₂.out.now) → OneRead s place l l' (Ok (Some (record { length = w.at; ahead = q.token_start })))
     read_again i e x k g {l'} j = subst (λ (m : List ℕ). OneRead s place m l' (Ok (Some (record { length = w.at; ahead = q.token_start })))) e (again i x k (rw e g) j)
+
+    pub never_denied : {o₂ w₂ : Writer} {r : Refusal} → ReadsStatement operations s p o₂ w₂ (Err r) → ⊥
+    never_denied k = never_both (sym first.reads ∙ k.so.reads)
+
+    pub never_none : {o₂ w₂ : Writer} {q₂ : Parser} → ReadsStatement operations s p o₂ w₂ (Ok (read.NoneLeft q₂)) → ⊥
+    never_none k = never_other (sym first.reads ∙ k.so.comes.reads)
 
 -- The whole call.
 module _ (s : List ℕ) (p : ℕ) (l : List ℕ) where

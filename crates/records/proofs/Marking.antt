@@ -3,10 +3,12 @@
 use Rattle.std.specs.Prelude.{if◌then◌else◌}
 use mathlib.Core.Path.{◌≡◌, refl, sym, ap, ◌∙◌}
 use mathlib.Core.Bool.{Bool, true, false, ◌||◌, true≢false, false≢true}
-use mathlib.Core.List.{List, [], ◌∷◌}
+use mathlib.Core.List.{List, [], ◌∷◌, map}
 use mathlib.Core.Option.{Option, none, some}
 use Prim.Native.Nat.{ℕ, ◌+◌, ◌≤◌}
 use native.Mathlib.Omega.{arith}
+use borrow.Author.Tests.{eqb-true}
+use lib.Dec.{eqb}
 use lib.ListN.{length, get_or}
 use Rattle.lexer.specs.Text.{maybe, bytes, same}
 use Rattle.rules.specs.Records.{Role, a_statement, a_times, an_expression, an_operand, a_line, Form, form_of, Cell, a_place, a_number, a_signed, cells, cells_of}
@@ -41,6 +43,24 @@ known_none m h = go (form_of m) h
 pub known_some : (m : List ℕ) → form_of m ≡ none → is_known m ≡ true → ⊥
 unfolding is_known
 known_some m e h = false≢true (sym (ap (λ (o : Option Form). maybe o false (λ w. true)) e) ∙ h)
+
+-- a record whose letters are none of these has two fields; so has, by definition, one that is not there
+abbrev others : List (List ℕ)
+others = map bytes ("ST" ∷ "VC" ∷ "PF" ∷ "IN" ∷ "OR" ∷ "OS" ∷ "OD" ∷ "OX" ∷ "LI" ∷ "LD" ∷ [])
+
+unfoldable pub one_of_these : List ℕ → List (List ℕ) → Bool
+one_of_these m [] = false
+one_of_these m (x ∷ xs) = same m x || one_of_these m xs
+
+pub two_others : (m : List ℕ) → one_of_these m others ≡ false → 2 ≡ count_of m
+unfolding count_of form_of cells one_of_these
+two_others m n = go (form_of m) refl
+  where
+    go : (o : Option Form) → form_of m ≡ o → 2 ≡ count_of m
+    go none e = rw e
+    go (some w) e =
+        let (t, j) = found (λ v. one_of_these (bytes v.mark) others || eqb (length (cells v.holds) + (if v.laden then 1 else 0)) 2) m w refl e in
+        sym (count_of_lem m w e ∙ eqb-true _ 2 (or_other (one_of_these (bytes w.mark) others) _ t (λ i. true≢false (sym i ∙ ap (λ (k : List ℕ). one_of_these k others) (sym j) ∙ n))))
 
 -- only ST has fewer than two
 unfoldable two_cells : List Cell → Bool

@@ -54,9 +54,13 @@ pub nothing : (at : ℕ) (l : List ℕ) → Wrote at [] l l at
 unfolding stores
 nothing at l = record { long = refl; below = refl; grows = le_refl at; place = λ _. sym (add-zero at); wrote = λ _ _. refl }
 
-pub beyond : {at : ℕ} (bs : List ℕ) {l : List ℕ} → limit ≤ at → Wrote at bs l l at
-beyond {at} [] {l} h = nothing at l
-beyond {at} (b ∷ bs) h = record { long = refl; below = refl; grows = le_refl at; place = λ f. absurd (omega arith); wrote = λ f _. absurd (omega arith) }
+-- a run that would pass the limit, and one that begins at it or behind it
+pub beyond : {at : ℕ} {bs l : List ℕ} → limit < at + length bs → Wrote at bs l l at
+beyond {at} h = record { long = refl; below = refl; grows = le_refl at; place = λ f. absurd (omega arith); wrote = λ f _. absurd (omega arith) }
+
+pub at_limit : {at : ℕ} (bs : List ℕ) {l : List ℕ} → limit ≤ at → Wrote at bs l l at
+at_limit {at} [] {l} h = nothing at l
+at_limit {at} (b ∷ bs) h = beyond {bs = b ∷ bs} (omega arith)
 
 -- a run written behind another
 pub follows : {at w r : ℕ} (a b : List ℕ) {l l₁ l₂ : List ℕ} → Wrote at a l l₁ w → Wrote w b l₁ l₂ r → Wrote at (a ++ b) l l₂ r
@@ -111,6 +115,19 @@ headed {at} {first} {w} {r} {k} head b {l} {l₁} {l₂} long h f x y = record {
       let e₂ : l₂ ≡ stores l₁ at (head (length b)) = rw c at (y.wrote (omega (arith, long (w - first))) (omega (arith, long (w - first), x.long))) in
       e₂ ∙ rw e₁ (stored_before l at (head (length b)) b);
 }
+
+-- bytes stored one after the other by straight-line code
+pub two : (l : List ℕ) (i a b : ℕ) → set (set l i a) (i + 1) b ≡ stores l i (a ∷ b ∷ [])
+unfolding stores
+two l i a b = rw add-one
+
+pub four : (l : List ℕ) (i a b c d : ℕ) → set (set (set (set l i a) (i + 1) b) (i + 2) c) (i + 3) d ≡ stores l i (a ∷ b ∷ c ∷ d ∷ [])
+unfolding stores
+four l i a b c d =
+    let e : i + 1 ≡ suc i = omega arith in
+    let f : i + 2 ≡ suc (suc i) = omega arith in
+    let g : i + 3 ≡ suc (suc (suc i)) = omega arith in
+    rw (e, f, g)
 
 -- No byte of a run.
 pub stored_none : (l : List ℕ) (at : ℕ) (run : List ℕ) → l ≡ stores l at (take 0 run)

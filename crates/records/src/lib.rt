@@ -46,6 +46,22 @@ fn put<const N: usize>(out: &mut [u8], at: u32, bytes: [u8; N]) -> u32
     at + N.min(LIMIT as usize) as u32
 }
 
+// A run put where there is room for all of it.
+fn put_run(out: &mut [u8], at: u32, run: &[u8]) -> u32
+    ensures { Wrote at run.now out.old out.new result }
+{
+    if LIMIT <= at {
+        return at;
+    }
+    let from = at as usize;
+    let behind = at + run.len().min(LIMIT as usize) as u32;
+    if from <= out.len() && run.len() <= out.len() - from {
+        copy(out, from, run);
+        return behind;
+    }
+    behind
+}
+
 fn put_record<const N: usize>(out: &mut [u8], at: u32, mark: Mark, numbers: [u32; N]) -> u32
     ensures { Wrote at (encode (plain (letters_of mark) numbers.entry)) out.old out.new result }
 {
@@ -88,6 +104,20 @@ impl<'a> Writer<'a> {
         ensures { Puts «bytes».entry self.old self.new }
     {
         self.at = put(self.out, self.at, bytes);
+    }
+
+    // As many bytes of data as there are. At once, and one by one where they are few: one by one a long string took a quarter longer, and
+    // at once, which is a call, one of a few letters an eighth.
+    pub fn put_all(&mut self, run: &[u8])
+        ensures { Puts run.now self.old self.new }
+    {
+        if run.len() < 8 {
+            for b in run {
+                self.put([*b]);
+            }
+            return;
+        }
+        self.at = put_run(self.out, self.at, run);
     }
 
     // A record without data.

@@ -127,21 +127,12 @@ fn constant(source: Source<'_>, out: &mut Writer<'_>, word: Word) -> Result<Pars
     Ok(below)
 }
 
-// Bytes, one behind the other. Its twin is `Text::put_all`: one `for` each, over a writer that measures on and over one that cuts off.
-fn put_bytes(out: &mut Writer<'_>, bytes: &[u8])
-    ensures { Puts bytes.now out.old out.new }
-{
-    for b in bytes {
-        out.put([*b]);
-    }
-}
-
 // The characters of a closed string, without its quotes.
 fn put_characters(out: &mut Writer<'_>, word: &[u8])
     ensures { Puts (answers.between word.now) out.old out.new }
 {
     if let [_, characters @ .., _] = word {
-        put_bytes(out, characters);
+        out.put_all(characters);
     }
 }
 

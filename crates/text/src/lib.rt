@@ -30,7 +30,7 @@ impl<'a> Text<'a> {
         }
     }
 
-    // `put_bytes` of `statements` is alike and no duplicate: this writer cuts off, that one goes on and measures.
+    // `Writer::put_all` of `records` is alike and no duplicate: this writer cuts off, that one goes on and measures.
     pub fn put_all(&mut self, text: &[u8])
         ensures { Put text.now self.old self.new }
     {

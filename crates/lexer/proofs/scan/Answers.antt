@@ -4,7 +4,7 @@ use mathlib.Core.Path.{refl, sym, ap, ◌∙◌}
 use borrow.Author.Rules.{rules}
 use Rattle.std.proofs.lemmas.Option.{MatchOption-at_some}
 use Rattle.lexer.specs.Text.{is_blank, is_word_part}
-use Rattle.lexer.specs.Tokens.{in_quotes, in_comment}
+use Rattle.lexer.specs.Tokens.{in_comment}
 use Rattle.lexer.specs.declared.Kind.TheVariants as kind
 use Rattle.lexer.proofs.Scans.{flat, run_end_is, string_closed, string_unclosed, scanned_at, scanned_end, single_scanned, not_line, stray_scanned, token_comment, token_blank, token_number, token_word, token_string, token_other}
 use Rattle.lexer.proofs.scan.Goals as goal
@@ -30,11 +30,11 @@ returns-then-c-eq59 c = c.plain-then-c-eq59.ensures ∙ run_end_is _ _ _ _ (c.ru
 
 pub returns-in-Some-eq39 : goal.returns-in-Some-eq39
 returns-in-Some-eq39 c =
-    c.plain-in-Some-eq39.ensures ∙ string_closed _ _ _ (c.run_end-end.ensures in_quotes (λ _ _ _ e. e)) (search rules) ∙ scanned_at _ _ c.if-source-at.false (token_string _ _ c.if-c-eq39.true)
+    c.plain-in-Some-eq39.ensures ∙ string_closed _ _ _ c.quoted_end-end.ensures (search rules) ∙ scanned_at _ _ c.if-source-at.false (token_string _ _ c.if-c-eq39.true)
 
 pub returns-then-c-eq39 : goal.returns-then-c-eq39
 returns-then-c-eq39 c =
-    c.plain-then-c-eq39.ensures ∙ string_unclosed _ _ _ (c.run_end-end.ensures in_quotes (λ _ _ _ e. e)) (search rules) ∙ scanned_at _ _ c.if-source-at.false (token_string _ _ c.if-c-eq39.true)
+    c.plain-then-c-eq39.ensures ∙ string_unclosed _ _ _ c.quoted_end-end.ensures (search rules) ∙ scanned_at _ _ c.if-source-at.false (token_string _ _ c.if-c-eq39.true)
 
 pub returns : goal.returns
 returns c =
