@@ -10,7 +10,7 @@
 // status 1.
 #![tactic(auto)]
 
-ghost use Rattle.std.specs.Prelude.{◌≤◌, ◌<◌, length, IfSome};
+ghost use Rattle.std.specs.Prelude.{◌≡◌, [], ◌≤◌, ◌<◌, length, IfSome, IfNone};
 
 use input::read_input;
 use std::io;
@@ -38,7 +38,8 @@ fn meant(letter: u8) -> u8 {
 
 // The byte that a line's head spells, and the rest of the line. What is missing at the line's end counts as 0.
 fn spelled(line: &[u8]) -> Option<(u8, &[u8])>
-    ensures { IfSome result (λ step. length step.1.now < length line.now) }
+    ensures goes_on { IfSome result (λ step. length step.1.now < length line.now) }
+    ensures ends { IfNone result (line.now ≡ []) }
 {
     match line {
         [] => None,
